@@ -1,0 +1,74 @@
+-- Laws of refusals and answers, cited by every crate that refuses. Assumes nothing.
+use mathlib.Core.Path.{_≡_, refl, sym, ap, _∙_}
+use mathlib.Core.Bool.{Bool, true, false, cond}
+use Prim.Native.Nat.{ℕ, suc}
+use native.Mathlib.Nat.{suc-ne-zero}
+use lib.Dec.{eqb}
+use lib.Ieee.{Float}
+use borrow.Author.Tests.{ne-eqb, eq-eqb, eqb-true, eqb-false}
+use Rattle.answer.specs.Refusal.{refusal, _orElse_}
+use Rattle.answer.specs.Answer.{Answer, gives, refused, answered, wholeAnswer, realAnswer}
+use Rattle.answer.specs.declared.Whole.{Whole}
+use Rattle.answer.specs.declared.Whole.the-variants as whole
+use Rattle.answer.specs.declared.Real.{Real}
+use Rattle.answer.specs.declared.Real.the-variants as real
+
+-- a refusal that is given comes first
+pub or-first : (f g : ℕ) → (f ≡ 0 → ⊥) → f ≡ f orElse g
+unfolding _orElse_
+or-first f g h = rw (ne-eqb f 0 h)
+
+-- and where it is not, the next ones speak
+pub or-next : (f g : ℕ) → f ≡ 0 → f orElse g ≡ g
+unfolding _orElse_
+or-next f g e = rw e
+
+-- where nothing is refused, neither refuses
+pub or-none : (f g : ℕ) → f orElse g ≡ 0 → (f ≡ 0) × (g ≡ 0)
+unfolding _orElse_
+or-none f g e = by-case (eqb f 0) f g (eqb-true f 0) (eqb-false f 0) e
+  where
+    by-case : (b : Bool) (f g : ℕ) → (b ≡ true → f ≡ 0) → (b ≡ false → f ≡ 0 → ⊥) → cond b g f ≡ 0 → (f ≡ 0) × (g ≡ 0)
+    by-case true f g is isn't e = (is refl, e)
+    by-case false f g is isn't e = absurd (isn't refl e)
+
+-- a refusal that is not given: its test fails
+pub passed : (k : ℕ) (test : Bool) → refusal (suc k) test ≡ 0 → test ≡ false
+passed k true e = absurd (suc-ne-zero k e)
+passed k false e = refl
+
+-- an answer from its refusal's number: none, or one
+pub answer-given : {A : Type 0} (fault : ℕ) (a : A) → fault ≡ 0 → answered fault a ≡ gives a
+unfolding answered
+answer-given fault a e = rw e
+
+pub answer-refused : {A : Type 0} (fault : ℕ) (a : A) → (fault ≡ 0 → ⊥) → answered fault a ≡ refused fault
+unfolding answered
+answer-refused fault a h = rw (ne-eqb fault 0 h)
+
+-- two enum answers with the same number and value are the same: the way back gives each
+module _ {E A : Type 0} (to : E → Answer A) (back : Answer A → E) (same : (r : E) → back (to r) ≡ r) where
+  pub only : (r s : E) → to r ≡ to s → r ≡ s
+  only r s e = sym (same r) ∙ ap back e ∙ same s
+
+pub whole-only : (r s : Whole) → wholeAnswer r ≡ wholeAnswer s → r ≡ s
+whole-only = only wholeAnswer back same
+  where
+    back : Answer ℕ → Whole
+    back (gives n) = whole.Number n
+    back (refused f) = whole.Refused f
+
+    same : (r : Whole) → back (wholeAnswer r) ≡ r
+    same (whole.Number n) = refl
+    same (whole.Refused f) = refl
+
+pub real-only : (r s : Real) → realAnswer r ≡ realAnswer s → r ≡ s
+real-only = only realAnswer back same
+  where
+    back : Answer Float → Real
+    back (gives x) = real.Number x
+    back (refused f) = real.Refused f
+
+    same : (r : Real) → back (realAnswer r) ≡ r
+    same (real.Number x) = refl
+    same (real.Refused f) = refl

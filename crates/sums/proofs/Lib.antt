@@ -1,0 +1,3 @@
+pub mod SumLaws
+pub mod SignedLaws
+pub mod Unique

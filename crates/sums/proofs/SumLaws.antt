@@ -1,0 +1,42 @@
+-- The laws of `sumBelow`. Each is stated over the function that is summed, so that it serves every width of sample. Assumes nothing.
+use mathlib.Core.Path.{_≡_, refl, sym, ap, subst}
+use Prim.Native.Nat.{ℕ, zero, suc, _+_, _-_, _*_, _≤_, _<_}
+use native.Mathlib.Nat.{add-assoc, add-zero, add-suc, suc-mul}
+use native.Mathlib.Numerals.{add-one}
+use native.Mathlib.Omega.{arith}
+use Rattle.sums.specs.Sums.{sumBelow, apart}
+
+-- none, and one more
+pub sum-none : (f : ℕ → ℕ) → 0 ≡ sumBelow 0 f
+unfolding sumBelow
+sum-none f = refl
+
+pub sum-more : (n : ℕ) (f : ℕ → ℕ) → sumBelow (n + 1) f ≡ sumBelow n f + f n
+unfolding sumBelow
+sum-more n f = rw add-one
+
+-- equal numbers have equal sums
+pub sum-ext : (n : ℕ) (f g : ℕ → ℕ) → ((i : ℕ) → i < n → f i ≡ g i) → sumBelow n f ≡ sumBelow n g
+unfolding sumBelow
+sum-ext zero f g e = refl
+sum-ext (suc n) f g e = let here = e n (omega arith) in let rest = sum-ext n f g (λ i l. e i (omega arith)) in omega arith
+
+-- n numbers of at most b
+pub sum-most : (b n : ℕ) (f : ℕ → ℕ) → ((i : ℕ) → i < n → f i ≤ b) → sumBelow n f ≤ n * b
+unfolding sumBelow
+sum-most b zero f e = omega arith
+sum-most b (suc n) f e = let here = e n (omega arith) in let rest = sum-most b n f (λ i l. e i (omega arith)) in omega arith
+
+-- a sum cut in two, as strips cut a plane
+pub sum-cut : (m n : ℕ) (f : ℕ → ℕ) → sumBelow (m + n) f ≡ sumBelow m f + sumBelow n (λ (i : ℕ). f (m + i))
+unfolding sumBelow
+sum-cut m zero f = rw add-zero (omega arith)
+sum-cut m (suc n) f = rw add-suc (let rest = sum-cut m n f in omega arith)
+
+-- how far two samples below b lie apart
+pub apart-below : (b x y : ℕ) → x < b → y < b → apart x y < b
+apart-below b x y l m = omega arith
+
+-- a sum whose end is another number that is the same
+pub sum-to : (r m n : ℕ) (f : ℕ → ℕ) → r ≡ sumBelow m f → m ≡ n → r ≡ sumBelow n f
+sum-to r m n f p e = rw (← e) p

@@ -1,0 +1,17 @@
+-- Each contract of this crate allows one result alone. Assumes nothing.
+use mathlib.Core.Path.{sym, _∙_}
+use Prim.Native.Nat.{ℕ}
+use lib.Ieee.{Float}
+use Rattle.answer.specs.Unique.{OneOutcome}
+use Rattle.sums.proofs.distance.Kinds as distance-kinds
+use Rattle.sums.proofs.distance.Reads as distance-reads
+use Rattle.sums.proofs.quotient.Kinds as quotient-kinds
+use Rattle.sums.proofs.quotient.Reads as quotient-reads
+
+pub distance-unique : OneOutcome 0 distance-kinds.ps distance-kinds.r ℕ (λ κs r e. r) distance-reads.Post
+unfolding OneOutcome
+distance-unique κs a r r′ e e′ p q = p ∙ sym q
+
+pub quotient-unique : OneOutcome 0 quotient-kinds.ps quotient-kinds.r Float (λ κs r e. r) quotient-reads.Post
+unfolding OneOutcome
+quotient-unique κs a r r′ e e′ p q = p ∙ sym q

@@ -1,0 +1,20 @@
+// The two small numbers that every measure is made of: how far two samples lie apart, and a total over a count.
+ghost use mathlib.Core.Path.{_≡_};
+ghost use Rattle.sums.specs.Sums.{apart};
+ghost use Rattle.sums.specs.Quotient.{quotientOf};
+
+// How far two samples lie apart. A signed difference, since the compiler turns this form into the fewest vector
+// instructions.
+pub fn distance(x: u8, y: u8) -> u32
+    ensures { λ r. ⌜ r ≡ apart x y ⌝ }
+{
+    let d = (x as i32) - (y as i32);
+    if d < 0 { (0 - d) as u32 } else { d as u32 }
+}
+
+// A total over a count, each taken to a float first. A count of 0 gives an infinity, and 0 over 0 a NaN.
+pub fn quotient(total: u64, count: u64) -> f64
+    ensures { λ r. ⌜ r ≡ quotientOf total count ⌝ }
+{
+    std::num::nearest_u64_to_f64(total) / std::num::nearest_u64_to_f64(count)
+}
