@@ -14,14 +14,14 @@ use Rattle.answer.specs.declared.Real.{Real}
 use Rattle.answer.specs.declared.Real.the-variants as real
 
 -- a refusal that is given comes first
-pub or-first : (f g : ℕ) → (f ≡ 0 → ⊥) → f ≡ f orElse g
+pub or-given : (r f g : ℕ) → r ≡ f → (r ≡ 0 → ⊥) → r ≡ f orElse g
 unfolding _orElse_
-or-first f g h = rw (ne-eqb f 0 h)
+or-given r f g e h = rw (← e, ne-eqb r 0 h)
 
 -- and where it is not, the next ones speak
-pub or-next : (f g : ℕ) → f ≡ 0 → f orElse g ≡ g
+pub or-later : (r f g : ℕ) → 0 ≡ f → r ≡ g → r ≡ f orElse g
 unfolding _orElse_
-or-next f g e = rw e
+or-later r f g e d = rw (← e, d)
 
 -- where nothing is refused, neither refuses
 pub or-none : (f g : ℕ) → f orElse g ≡ 0 → (f ≡ 0) × (g ≡ 0)
