@@ -38,13 +38,13 @@ passed k true e = absurd (suc-ne-zero k e)
 passed k false e = refl
 
 -- an answer from its refusal's number: none, or one
-pub answer-given : {A : Type 0} (fault : ℕ) (a : A) → fault ≡ 0 → answered fault a ≡ gives a
+pub answer-given : {A : Type 0} (fault : ℕ) (a b : A) → 0 ≡ fault → b ≡ a → gives b ≡ answered fault a
 unfolding answered
-answer-given fault a e = rw e
+answer-given fault a b e d = rw (← e, d)
 
-pub answer-refused : {A : Type 0} (fault : ℕ) (a : A) → (fault ≡ 0 → ⊥) → answered fault a ≡ refused fault
+pub answer-refused : {A : Type 0} (r fault : ℕ) (a : A) → r ≡ fault → (r ≡ 0 → ⊥) → refused r ≡ answered fault a
 unfolding answered
-answer-refused fault a h = rw (ne-eqb fault 0 h)
+answer-refused r fault a e h = rw (← e, ne-eqb r 0 h)
 
 -- two enum answers with the same number and value are the same: the way back gives each
 module _ {E A : Type 0} (to : E → Answer A) (back : Answer A → E) (same : (r : E) → back (to r) ≡ r) where
