@@ -46,6 +46,15 @@ pub answer-refused : {A : Type 0} (r fault : ℕ) (a : A) → r ≡ fault → (r
 unfolding answered
 answer-refused r fault a e h = rw (← e, ne-eqb r 0 h)
 
+-- two values that agree where nothing is refused make one answer
+pub answer-same : {A : Type 0} (fault : ℕ) (a b : A) → (fault ≡ 0 → a ≡ b) → answered fault a ≡ answered fault b
+unfolding answered
+answer-same fault a b e = by-case (eqb fault 0) (λ t. e (eqb-true fault 0 t))
+  where
+    by-case : (t : Bool) → (t ≡ true → a ≡ b) → cond t (gives a) (refused fault) ≡ cond t (gives b) (refused fault)
+    by-case true e = ap gives (e refl)
+    by-case false e = refl
+
 -- two enum answers with the same number and value are the same: the way back gives each
 module _ {E A : Type 0} (to : E → Answer A) (back : Answer A → E) (same : (r : E) → back (to r) ≡ r) where
   pub only : (r s : E) → to r ≡ to s → r ≡ s

@@ -12,7 +12,7 @@ use borrow.Author.Tests.{lt-ltb, le-ltb, le-leb, lt-leb, ltb-false, leb-true, le
 use Rattle.answer.specs.Refusal.{refusal, _orElse_}
 use Rattle.answer.proofs.Laws.{or-none, passed}
 use Rattle.plane.specs.declared.Plane.{Plane}
-use Rattle.plane.specs.Planes.{sampleAt, rowEnd, rowOf, maxSide, badSide, badShape, pastSamples, sizesDiffer, planeFault, sizesFault}
+use Rattle.plane.specs.Planes.{sampleAt, rowEnd, rowOf, maxSide, badSide, badShape, pastSamples, sizesDiffer, planeFault, sizesFault, depthFault, pairFault}
 
 -- ---- tests
 
@@ -138,3 +138,8 @@ pair p n q m e =
       widths = eqb-true _ _ (not-false _ (d .0));
       heights = eqb-true _ _ (not-false _ (d .1));
     }
+
+-- a measure that is not refused has two such planes
+pub measured : (depth : ℕ) (p : Plane) (n : ℕ) (q : Plane) (m : ℕ) → pairFault depth p n q m ≡ 0 → sizesFault p n q m ≡ 0
+unfolding pairFault
+measured depth p n q m e = or-none (depthFault depth) (sizesFault p n q m) e .1
