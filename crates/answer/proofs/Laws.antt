@@ -5,7 +5,7 @@ use Prim.Native.Nat.{ℕ, suc}
 use native.Mathlib.Nat.{suc-ne-zero}
 use lib.Dec.{eqb}
 use lib.Ieee.{Float}
-use borrow.Author.Tests.{ne-eqb, eq-eqb, eqb-true, eqb-false}
+use borrow.Author.Tests.{ne-eqb, eqb-true, eqb-false}
 use Rattle.answer.specs.Refusal.{refusal, _orElse_}
 use Rattle.answer.specs.Answer.{Answer, gives, refused, answered, wholeAnswer, realAnswer}
 use Rattle.answer.specs.declared.Whole.{Whole}
