@@ -1,4 +1,4 @@
--- The distance of two samples by a signed difference, for samples of up to 16 bits. Assumes nothing.
+-- Sizes and signs of whole numbers, and the distance of two samples of up to 16 bits by a signed difference. Assumes nothing.
 use mathlib.Core.Path.{_≡_, refl, ap, _∙_}
 use mathlib.Core.Bool.{Bool, true, false, cond, true≢false}
 use Prim.Native.Nat.{ℕ, zero, suc, _-_, _≤_, _<_, _^_}
@@ -17,28 +17,29 @@ abs-cond : (t : Bool) (x y : ℕ) → ltb x (suc y) ≡ t → natAbs (cond t (ne
 abs-cond true x y e = omega (arith, ltb-true x (suc y) e)
 abs-cond false x y e = omega (arith, ltb-false x (suc y) e)
 
-abs-difference : (x y : ℕ) → natAbs (pos x -ℤ pos y) ≡ apart x y
+pub abs-difference : (x y : ℕ) → natAbs (pos x -ℤ pos y) ≡ apart x y
 abs-difference x zero = omega arith
 abs-difference x (suc y) = abs-cond (ltb x (suc y)) x y refl
 
-abs-neg : (z : ℤ) → natAbs (pos 0 -ℤ z) ≡ natAbs z
-abs-neg z = ap natAbs (+ℤ-idl (negℤ z)) ∙ flip z
-  where
-    flip : (z : ℤ) → natAbs (negℤ z) ≡ natAbs z
-    flip (pos zero) = refl
-    flip (pos (suc n)) = refl
-    flip (negsuc n) = refl
+-- a negation is as large
+pub abs-flip : (z : ℤ) → natAbs (negℤ z) ≡ natAbs z
+abs-flip (pos zero) = refl
+abs-flip (pos (suc n)) = refl
+abs-flip (negsuc n) = refl
 
-mag-abs : (z : ℤ) → mag z ≤ natAbs z
+pub abs-neg : (z : ℤ) → natAbs (pos 0 -ℤ z) ≡ natAbs z
+abs-neg z = ap natAbs (+ℤ-idl (negℤ z)) ∙ abs-flip z
+
+pub mag-abs : (z : ℤ) → mag z ≤ natAbs z
 mag-abs (pos n) = omega arith
 mag-abs (negsuc n) = omega arith
 
 -- the test for a sign
-not-below : (z : ℤ) → ltZ z (pos 0) ≡ false → T (nonNeg z)
+pub not-below : (z : ℤ) → ltZ z (pos 0) ≡ false → T (nonNeg z)
 not-below (pos n) e = tt
 not-below (negsuc n) e = absurd (true≢false e)
 
-below : (z : ℤ) → ltZ z (pos 0) ≡ true → T (nonNeg (pos 0 -ℤ z))
+pub below : (z : ℤ) → ltZ z (pos 0) ≡ true → T (nonNeg (pos 0 -ℤ z))
 below (pos n) e = absurd (omega (arith, ltb-true n 0 e))
 below (negsuc n) e = tt
 
