@@ -13,7 +13,7 @@ use Rattle.hadamard.specs.Steps.{fourOf}
 use Rattle.hadamard.proofs.SignedLaws.{abs-add}
 
 -- ---- sums
-pub sum-ext : (n : ℕ) (f g : ℕ → ℤ) → ((j : ℕ) → j < n → f j ≡ g j) → sumZ n f ≡ sumZ n g
+sum-ext : (n : ℕ) (f g : ℕ → ℤ) → ((j : ℕ) → j < n → f j ≡ g j) → sumZ n f ≡ sumZ n g
 unfolding sumZ
 sum-ext zero f g e = refl
 sum-ext (suc n) f g e = rw (sum-ext n f g (λ j h. e j (omega arith)), e n (omega arith))

@@ -15,7 +15,7 @@ use Rattle.hadamard.proofs.Halves.{output-ext}
 
 -- ---- one line
 module _ (at step : ℕ) (g : ℕ → ℤ) where
-  pub length-stores : (n : ℕ) (l : List ℤ) → length (stores n at step g l) ≡ length l
+  length-stores : (n : ℕ) (l : List ℤ) → length (stores n at step g l) ≡ length l
   unfolding stores
   length-stores zero l = refl
   length-stores (suc n) l = length-set (stores n at step g l) (at + n * step) (g n) ∙ length-stores n l
@@ -72,7 +72,7 @@ module _ (n first step : ℕ) where
 
   module _ (l : List ℤ) (p : LinesIn n first step l) where
     -- the lines to come are as they were
-    pub lined-left : (m a k : ℕ) → m ≤ a → a < n → k < n → reach (allLined n first step m l) (a * first) step k ≡ reach l (a * first) step k
+    lined-left : (m a k : ℕ) → m ≤ a → a < n → k < n → reach (allLined n first step m l) (a * first) step k ≡ reach l (a * first) step k
     unfolding allLined
     lined-left zero a k h a< k< = refl
     lined-left (suc m) a k h a< k< =

@@ -10,7 +10,7 @@ use lib.IntN.{ℤ, pos, negsuc, natAbs}
 use lib.ListN.{length, getD, drop, drop-of-length-le}
 use lib.Seq.{drop-cons}
 use lib.Signed.{ltZ}
-use Rattle.answer.specs.Refusal.{refusal}
+use Rattle.answer.specs.Refusal.{refusal, _orElse_}
 use Rattle.hadamard.specs.Transform.{entryMost, beyondMost, someBeyond, transformFault, transformed, afterTransform}
 use Rattle.hadamard.specs.Steps.{countBeyond, Within}
 

@@ -10,6 +10,7 @@ use borrow.Author.Count.{below-more}
 use lib.IntN.{ℤ, pos, natAbs}
 use lib.ListN.{length, getD, set, List·getD-eq-default}
 use lib.Seq.{getD-set-same, getD-set-other}
+use Rattle.answer.specs.Refusal.{_orElse_}
 use Rattle.answer.specs.Answer.{gives, refused, answered}
 use Rattle.sums.proofs.TableLaws.{length-table, table-at}
 use Rattle.sums.proofs.SumLaws.{sum-most}

@@ -32,7 +32,7 @@ unfoldable pub satdValue : List ℕ → List ℕ → ℕ
 satdValue first second = (absSum (transformed side (differences first second)) + 4) / 8
 
 -- 2: a block hasn't its 64 samples
-abbrev pub blockFault : List ℕ → ℕ
+abbrev blockFault : List ℕ → ℕ
 blockFault l = refusal 2 (not (eqb (length l) (side * side)))
 
 abbrev pub satdOf : List ℕ → List ℕ → Answer ℕ
