@@ -10,9 +10,11 @@ use borrow.Author.Tests.{eqb-true}
 use lib.Dec.{eqb}
 use lib.IntN.{ℤ, pos, _+ℤ_, _-ℤ_, natAbs}
 use lib.ListN.{getD}
+use Rattle.hadamard.specs.declared.Two.{Two}
 use Rattle.hadamard.specs.declared.Four.{Four}
+use Rattle.hadamard.specs.declared.Eight.{Eight}
 use Rattle.hadamard.specs.Transform.{sumZ, output}
-use Rattle.hadamard.specs.Steps.{fourOf, placed, Small, reach, stores, lined, Sized, LineIn}
+use Rattle.hadamard.specs.Steps.{twoOf, mergeOf, fourOf, placed, Small, reach, stores, lined, Sized, LineIn}
 use Rattle.hadamard.proofs.SignedLaws.{abs-add, abs-sub}
 use Rattle.hadamard.proofs.Halves.{output-ext, output-low, output-high, output-most}
 use Rattle.hadamard.proofs.Places.{stores-ext, stores-cut}
@@ -43,12 +45,23 @@ small-more m n x s h = omega arith
 pub four-small : (m : ℕ) (g : ℕ → ℤ) → ((j : ℕ) → j < 4 → natAbs (g j) ≤ m) → Small m (fourOf g)
 four-small m g h = record { m0 = h 0 (omega arith); m1 = h 1 (omega arith); m2 = h 2 (omega arith); m3 = h 3 (omega arith) }
 
-module _ (m : ℕ) (a b : Four) (p : Small m a) (q : Small m b) where
-  pub plus-small : Small (m + m) (fourOf (λ (k : ℕ). placed a k +ℤ placed b k))
-  plus-small = record { m0 = omega (arith, abs-add (a .x0) (b .x0)); m1 = omega (arith, abs-add (a .x1) (b .x1)); m2 = omega (arith, abs-add (a .x2) (b .x2)); m3 = omega (arith, abs-add (a .x3) (b .x3)) }
+-- a butterfly's numbers are at most twice as large
+pub record Doubled (m : ℕ) (r : Two) : Type 0 where
+  pub sum : natAbs (r .sum) ≤ m + m
+  pub difference : natAbs (r .difference) ≤ m + m
 
-  pub minus-small : Small (m + m) (fourOf (λ (k : ℕ). placed a k -ℤ placed b k))
-  minus-small = record { m0 = omega (arith, abs-sub (a .x0) (b .x0)); m1 = omega (arith, abs-sub (a .x1) (b .x1)); m2 = omega (arith, abs-sub (a .x2) (b .x2)); m3 = omega (arith, abs-sub (a .x3) (b .x3)) }
+pub doubled : (m : ℕ) (a b : ℤ) → natAbs a ≤ m → natAbs b ≤ m → (r : Two) → r ≡ twoOf a b → Doubled m r
+doubled m a b h k r e = rw e (record { sum = omega (arith, abs-add a b); difference = omega (arith, abs-sub a b) })
+
+module _ (m : ℕ) (a b : Four) (p : Small m a) (q : Small m b) where
+  low-small : Small (m + m) (mergeOf a b .low)
+  low-small = record { m0 = omega (arith, abs-add (a .x0) (b .x0)); m1 = omega (arith, abs-add (a .x1) (b .x1)); m2 = omega (arith, abs-add (a .x2) (b .x2)); m3 = omega (arith, abs-add (a .x3) (b .x3)) }
+
+  high-small : Small (m + m) (mergeOf a b .high)
+  high-small = record { m0 = omega (arith, abs-sub (a .x0) (b .x0)); m1 = omega (arith, abs-sub (a .x1) (b .x1)); m2 = omega (arith, abs-sub (a .x2) (b .x2)); m3 = omega (arith, abs-sub (a .x3) (b .x3)) }
+
+  pub merged : (r : Eight) → r ≡ mergeOf a b → (r ≡ mergeOf a b) × (Small (m + m) (r .low) × Small (m + m) (r .high))
+  merged r e = (e, rw e (low-small, high-small))
 
 -- ---- the parts of a line
 module _ (n q at step m : ℕ) (l : List ℤ) (p : LineIn (n + q) at step m l) where
@@ -83,14 +96,14 @@ module _ (l : List ℤ) (at step : ℕ) where
   ahead : (k : ℕ) → output 4 (λ (j : ℕ). reach l at step (4 + j)) k ≡ output 4 (reach l (at + 4 * step) step) k
   ahead k = output-ext 4 (λ (j : ℕ). reach l at step (4 + j)) (reach l (at + 4 * step) step) k (λ j _. ap (λ (i : ℕ). getD l i (pos 0)) (omega arith))
 
-  sums : (k : ℕ) → k < 4 → output 8 (reach l at step) k ≡ placed (fourOf (λ (k : ℕ). placed a k +ℤ placed b k)) k
+  sums : (k : ℕ) → k < 4 → output 8 (reach l at step) k ≡ placed (mergeOf a b .low) k
   unfolding a b
   sums k h =
       output-low 2 (reach l at step) k h
       ∙ sym (placed-four (λ (k : ℕ). placed a k +ℤ placed b k) k h
       ∙ ap₂ _+ℤ_ (placed-four (output 4 (reach l at step)) k h) (placed-four (output 4 (reach l (at + 4 * step) step)) k h ∙ sym (ahead k)))
 
-  differences : (k : ℕ) → k < 4 → output 8 (reach l at step) (4 + k) ≡ placed (fourOf (λ (k : ℕ). placed a k -ℤ placed b k)) k
+  differences : (k : ℕ) → k < 4 → output 8 (reach l at step) (4 + k) ≡ placed (mergeOf a b .high) k
   unfolding a b
   differences k h =
       output-high 2 (reach l at step) k h
@@ -98,10 +111,10 @@ module _ (l : List ℤ) (at step : ℕ) where
       ∙ ap₂ _-ℤ_ (placed-four (output 4 (reach l at step)) k h) (placed-four (output 4 (reach l (at + 4 * step) step)) k h ∙ sym (ahead k)))
 
   pub line-of-8 : (x y : Four) → x ≡ fourOf (output 4 (reach l at step)) → y ≡ fourOf (output 4 (reach l (at + 4 * step) step))
-      → stores 4 (at + 4 * step) step (placed (fourOf (λ (k : ℕ). placed x k -ℤ placed y k))) (stores 4 at step (placed (fourOf (λ (k : ℕ). placed x k +ℤ placed y k))) l)
-      ≡ lined 8 at step l
+      → stores 4 (at + 4 * step) step (placed (mergeOf x y .high)) (stores 4 at step (placed (mergeOf x y .low)) l) ≡ lined 8 at step l
   unfolding a b
   line-of-8 x y d e =
-      rw (d, e) (sym (stores-cut at step (output 8 (reach l at step)) 4 4 l
-      ∙ ap (stores 4 (at + 4 * step) step (λ (k : ℕ). output 8 (reach l at step) (4 + k))) (stores-ext at step (output 8 (reach l at step)) 4 (placed (fourOf (λ (k : ℕ). placed a k +ℤ placed b k))) l sums)
-      ∙ stores-ext (at + 4 * step) step (λ (k : ℕ). output 8 (reach l at step) (4 + k)) 4 (placed (fourOf (λ (k : ℕ). placed a k -ℤ placed b k))) (stores 4 at step (placed (fourOf (λ (k : ℕ). placed a k +ℤ placed b k))) l) differences))
+      let f : ℕ → ℤ = output 8 (reach l at step) in
+      rw (d, e) (sym (stores-cut at step f 4 4 l
+      ∙ ap (stores 4 (at + 4 * step) step (λ (k : ℕ). f (4 + k))) (stores-ext at step f 4 (placed (mergeOf a b .low)) l sums)
+      ∙ stores-ext (at + 4 * step) step (λ (k : ℕ). f (4 + k)) 4 (placed (mergeOf a b .high)) (stores 4 at step (placed (mergeOf a b .low)) l) differences))

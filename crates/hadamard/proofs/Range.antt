@@ -10,6 +10,7 @@ use lib.IntN.{ℤ, pos, negsuc, natAbs}
 use lib.ListN.{length, getD, drop, drop-of-length-le}
 use lib.Seq.{drop-cons}
 use lib.Signed.{ltZ}
+use Rattle.answer.specs.Answer.{lentAfter}
 use Rattle.answer.specs.Refusal.{refusal, _orElse_}
 use Rattle.hadamard.specs.Transform.{entryMost, beyondMost, someBeyond, transformFault, transformed, afterTransform}
 use Rattle.hadamard.specs.Steps.{countBeyond, Within}
@@ -89,14 +90,14 @@ none-beyond (z ∷ l) w = rw (le-ltb entryMost (natAbs z) (w .most 0)) (none-bey
 
 -- ---- the refusals, and what is left
 pub wrong-length : (n : ℕ) (l : List ℤ) → (length l ≡ n * n → ⊥) → (2 ≡ transformFault n l) × (l ≡ afterTransform n l)
-unfolding _orElse_
+unfolding _orElse_ lentAfter
 wrong-length n l h = rw (ne-eqb (length l) (n * n) h) (refl, refl)
 
 module _ (n : ℕ) (l : List ℤ) (size : length l ≡ n * n) where
   pub too-large : someBeyond l ≡ true → (10 ≡ transformFault n l) × (l ≡ afterTransform n l)
-  unfolding _orElse_
+  unfolding _orElse_ lentAfter
   too-large e = rw (eq-eqb (length l) (n * n) size, e) (refl, refl)
 
   pub accepted : someBeyond l ≡ false → (0 ≡ transformFault n l) × (transformed n l ≡ afterTransform n l)
-  unfolding _orElse_
+  unfolding _orElse_ lentAfter
   accepted e = rw (eq-eqb (length l) (n * n) size, e) (refl, refl)

@@ -12,6 +12,8 @@ use mir.Syntax.{w32}
 use mir.Val.{SFits, toZ, ofZ}
 use mir.Facts.{toZ-ofZ}
 use Rattle.sums.proofs.SignedLaws.{abs-flip, mag-abs}
+use Rattle.hadamard.specs.declared.Two.{Two}
+use Rattle.hadamard.specs.Steps.{twoOf}
 
 abs-cond : (t : Bool) (a b : ℕ) → natAbs (cond t (negsuc (suc b - suc a)) (pos (a - suc b))) ≤ a + suc b
 abs-cond true a b = omega arith
@@ -37,8 +39,11 @@ read-back z h = toZ-ofZ (fits-abs z h)
 pub read-at : (l : List ℤ) (i : ℕ) → mag (getD l i (pos 0)) < 2147483648 → toZ w32 (ofZ w32 (getD l i (pos 0))) ≡ getD l i (pos 0)
 read-at l i h = toZ-ofZ {w = w32} (record { sfits = h })
 
--- a sum and a difference of what two signed locals hold, each below half of what a local takes: that they fit, and what is read back of them
+-- what two signed locals hold, each below half of what a local takes: it is as small, its sum and its difference fit and are read back
 module _ (a b : ℤ) (h : natAbs a < 2 ^ 30) (k : natAbs b < 2 ^ 30) where
+  pub both-small : (natAbs (toZ w32 (ofZ w32 a)) < 2 ^ 30) × (natAbs (toZ w32 (ofZ w32 b)) < 2 ^ 30)
+  both-small = rw (read-back a (omega arith), read-back b (omega arith)) (h, k)
+
   held-add : toZ w32 (ofZ w32 a) +ℤ toZ w32 (ofZ w32 b) ≡ a +ℤ b
   held-add = rw (read-back a (omega arith), read-back b (omega arith))
 
@@ -51,8 +56,13 @@ module _ (a b : ℤ) (h : natAbs a < 2 ^ 30) (k : natAbs b < 2 ^ 30) where
   pub sub-asked : SFits w32 (toZ w32 (ofZ w32 a) -ℤ toZ w32 (ofZ w32 b))
   sub-asked = rw held-sub (fits-abs (a -ℤ b) (omega (arith, abs-sub a b)))
 
-  pub add-read : toZ w32 (ofZ w32 (toZ w32 (ofZ w32 a) +ℤ toZ w32 (ofZ w32 b))) ≡ a +ℤ b
-  add-read = toZ-ofZ add-asked ∙ held-add
+  -- a butterfly's numbers, as it makes them and as they are read back
+  pub two-made : _≡_ {A = Two} (record { sum = toZ w32 (ofZ w32 (toZ w32 (ofZ w32 a) +ℤ toZ w32 (ofZ w32 b))); difference = toZ w32 (ofZ w32 (toZ w32 (ofZ w32 a) -ℤ toZ w32 (ofZ w32 b))) }) (twoOf a b)
+  two-made = rw (toZ-ofZ add-asked, toZ-ofZ sub-asked, held-add, held-sub)
 
-  pub sub-read : toZ w32 (ofZ w32 (toZ w32 (ofZ w32 a) -ℤ toZ w32 (ofZ w32 b))) ≡ a -ℤ b
-  sub-read = toZ-ofZ sub-asked ∙ held-sub
+  module _ (r : Two) (e : r ≡ twoOf (toZ w32 (ofZ w32 a)) (toZ w32 (ofZ w32 b))) where
+    pub two-is : r ≡ twoOf a b
+    two-is = e ∙ rw (read-back a (omega arith), read-back b (omega arith))
+
+    pub two-read : (toZ w32 (ofZ w32 (r .sum)) ≡ a +ℤ b) × (toZ w32 (ofZ w32 (r .difference)) ≡ a -ℤ b)
+    two-read = rw two-is (read-back (a +ℤ b) (omega (arith, abs-add a b)), read-back (a -ℤ b) (omega (arith, abs-sub a b)))

@@ -1,14 +1,26 @@
--- What the private functions leave on the way. Their contracts alone cite this file; no public one does.
+-- What the private functions leave on the way. Contracts of private functions alone cite this file; no public contract does.
 use mathlib.Core.Path.{_≡_}
 use mathlib.Core.Bool.{true, cond}
 use mathlib.Core.List.{List, [], _∷_}
 use Prim.Native.Nat.{ℕ, zero, suc, _+_, _*_, _≤_, _<_}
 use lib.Dec.{eqb}
-use lib.IntN.{ℤ, pos, natAbs}
+use lib.IntN.{ℤ, pos, _+ℤ_, _-ℤ_, natAbs}
 use lib.ListN.{length, getD, set}
 use Rattle.answer.specs.Refusal.{refusal}
-use Rattle.hadamard.specs.Transform.{output, beyondMost}
+use Rattle.hadamard.specs.Transform.{output, entryMost, beyondMost}
+use Rattle.hadamard.specs.declared.Two.{Two}
 use Rattle.hadamard.specs.declared.Four.{Four}
+use Rattle.hadamard.specs.declared.Eight.{Eight}
+
+-- the largest numbers on the way: of a line before its transform (a row, after the columns), of its halves' outputs, and of its own
+abbrev pub lineMost : ℕ
+lineMost = 8 * entryMost
+
+abbrev pub halfMost : ℕ
+halfMost = 4 * lineMost
+
+abbrev pub outMost : ℕ
+outMost = 2 * halfMost
 
 -- how many entries are out of range
 unfoldable pub countBeyond : List ℤ → ℕ
@@ -21,6 +33,13 @@ fourOf g = record { x0 = g 0; x1 = g 1; x2 = g 2; x3 = g 3 }
 
 abbrev pub placed : Four → ℕ → ℤ
 placed x j = getD (x .x0 ∷ x .x1 ∷ x .x2 ∷ x .x3 ∷ []) j (pos 0)
+
+-- a sum and a difference, of numbers and of fours
+abbrev pub twoOf : ℤ → ℤ → Two
+twoOf a b = record { sum = a +ℤ b; difference = a -ℤ b }
+
+abbrev pub mergeOf : Four → Four → Eight
+mergeOf a b = record { low = fourOf (λ (k : ℕ). placed a k +ℤ placed b k); high = fourOf (λ (k : ℕ). placed a k -ℤ placed b k) }
 
 -- each of four numbers is at most m in size
 pub record Small (m : ℕ) (x : Four) : Type 0 where

@@ -7,6 +7,7 @@ use lib.Count.{ones}
 use lib.Dec.{eqb, ltb}
 use lib.IntN.{ℤ, pos, negsuc, _+ℤ_, _*ℤ_, pow, natAbs}
 use lib.ListN.{length, getD}
+use Rattle.answer.specs.Answer.{lentAfter}
 use Rattle.answer.specs.Refusal.{refusal, _orElse_}
 use Rattle.sums.specs.Table.{table}
 
@@ -48,4 +49,4 @@ transformFault n l = refusal 2 (not (eqb (length l) (n * n))) orElse refusal 10 
 
 -- the list afterwards: as it was where it is refused
 abbrev pub afterTransform : ℕ → List ℤ → List ℤ
-afterTransform n l = cond (eqb (transformFault n l) 0) (transformed n l) l
+afterTransform n l = lentAfter (transformFault n l) (transformed n l) l

@@ -2,11 +2,11 @@
 // of four, whose outputs are added and subtracted, so that every step is on four entries.
 ghost use mathlib.Core.Path.{_≡_};
 ghost use Prim.Native.Nat.{_+_, _*_, _<_, _^_};
-ghost use lib.IntN.{_+ℤ_, _-ℤ_};
+ghost use lib.IntN.{natAbs};
 ghost use lib.ListN.{length};
 ghost use Rattle.answer.specs.Refusal.{refusal};
-ghost use Rattle.hadamard.specs.Transform.{output, entryMost, beyondMost, transformFault, afterTransform};
-ghost use Rattle.hadamard.specs.Steps.{countBeyond, fourOf, placed, Small, reach, stores, lined, allLined, Sized, Within, LineIn, LinesIn};
+ghost use Rattle.hadamard.specs.Transform.{output, beyondMost, transformFault, afterTransform};
+ghost use Rattle.hadamard.specs.Steps.{countBeyond, twoOf, mergeOf, fourOf, placed, Small, reach, stores, lined, allLined, Sized, Within, LineIn, LinesIn, halfMost, lineMost, outMost};
 
 // The largest entry, and the least.
 const MOST: i32 = 65535;
@@ -21,48 +21,71 @@ struct Four {
     x3: i32,
 }
 
+// A sum and a difference.
+struct Two {
+    sum: i32,
+    difference: i32,
+}
+
+// The sum and the difference of two numbers: every step of the transform.
+fn butterfly(a: i32, b: i32) -> Two
+    requires { ⌜ natAbs a < 2 ^ 30 ⌝ }
+    requires { ⌜ natAbs b < 2 ^ 30 ⌝ }
+    ensures { λ r. ⌜ r ≡ twoOf a b ⌝ }
+{
+    Two {
+        sum: a + b,
+        difference: a - b,
+    }
+}
+
 // The transform of four numbers.
 fn network(x: Four) -> Four
-    requires { ⌜ Small (8 * entryMost) x ⌝ }
+    requires { ⌜ Small lineMost x ⌝ }
     ensures { λ r. ⌜ r ≡ fourOf (output 4 (placed x)) ⌝ }
 {
-    let a0 = x.x0 + x.x1;
-    let a1 = x.x0 - x.x1;
-    let a2 = x.x2 + x.x3;
-    let a3 = x.x2 - x.x3;
+    let a = butterfly(x.x0, x.x1);
+    let b = butterfly(x.x2, x.x3);
+    let c = butterfly(a.sum, b.sum);
+    let d = butterfly(a.difference, b.difference);
     Four {
-        x0: a0 + a2,
-        x1: a1 + a3,
-        x2: a0 - a2,
-        x3: a1 - a3,
+        x0: c.sum,
+        x1: d.sum,
+        x2: c.difference,
+        x3: d.difference,
     }
 }
 
-fn plus(a: Four, b: Four) -> Four
-    requires { ⌜ Small (32 * entryMost) a ⌝ }
-    requires { ⌜ Small (32 * entryMost) b ⌝ }
-    ensures { λ r. ⌜ r ≡ fourOf (λ k. placed a k +ℤ placed b k) ⌝ }
-    ensures { λ r. ⌜ Small (64 * entryMost) r ⌝ }
-{
-    Four {
-        x0: a.x0 + b.x0,
-        x1: a.x1 + b.x1,
-        x2: a.x2 + b.x2,
-        x3: a.x3 + b.x3,
-    }
+// Eight numbers as two halves.
+struct Eight {
+    low: Four,
+    high: Four,
 }
 
-fn minus(a: Four, b: Four) -> Four
-    requires { ⌜ Small (32 * entryMost) a ⌝ }
-    requires { ⌜ Small (32 * entryMost) b ⌝ }
-    ensures { λ r. ⌜ r ≡ fourOf (λ k. placed a k -ℤ placed b k) ⌝ }
-    ensures { λ r. ⌜ Small (64 * entryMost) r ⌝ }
+// The outputs of eight numbers from those of their halves.
+fn merge(a: Four, b: Four) -> Eight
+    requires { ⌜ Small halfMost a ⌝ }
+    requires { ⌜ Small halfMost b ⌝ }
+    ensures { λ r. ⌜ r ≡ mergeOf a b ⌝ }
+    ensures { λ r. ⌜ Small outMost (r .low) × Small outMost (r .high) ⌝ }
 {
-    Four {
-        x0: a.x0 - b.x0,
-        x1: a.x1 - b.x1,
-        x2: a.x2 - b.x2,
-        x3: a.x3 - b.x3,
+    let p = butterfly(a.x0, b.x0);
+    let q = butterfly(a.x1, b.x1);
+    let r = butterfly(a.x2, b.x2);
+    let s = butterfly(a.x3, b.x3);
+    Eight {
+        low: Four {
+            x0: p.sum,
+            x1: q.sum,
+            x2: r.sum,
+            x3: s.sum,
+        },
+        high: Four {
+            x0: p.difference,
+            x1: q.difference,
+            x2: r.difference,
+            x3: s.difference,
+        },
     }
 }
 
@@ -82,7 +105,7 @@ fn load(block: &[i32], at: usize, step: usize) -> Four
 // Puts four numbers into these places.
 fn store(block: &mut [i32], at: usize, step: usize, y: Four)
     requires { ⌜ at + 3 * step < length (now block) ⌝ }
-    requires { ⌜ Small (64 * entryMost) y ⌝ }
+    requires { ⌜ Small outMost y ⌝ }
     ensures { λ _. ⌜ now (block .exit) ≡ stores 4 at step (placed y) (now (block .entry)) ⌝ }
 {
     let y0 = y.x0;
@@ -97,7 +120,7 @@ fn store(block: &mut [i32], at: usize, step: usize, y: Four)
 
 // The outputs of four entries of the list.
 fn outputs(block: &[i32], at: usize, step: usize) -> Four
-    requires { ⌜ LineIn 4 at step (8 * entryMost) (now block) ⌝ }
+    requires { ⌜ LineIn 4 at step lineMost (now block) ⌝ }
     ensures { λ r. ⌜ r ≡ fourOf (output 4 (reach (now (block .entry)) at step)) ⌝ }
 {
     network(load(block, at, step))
@@ -105,7 +128,7 @@ fn outputs(block: &[i32], at: usize, step: usize) -> Four
 
 // The transform of a line of four entries, in their places.
 fn line4(block: &mut [i32], at: usize, step: usize)
-    requires { ⌜ LineIn 4 at step (8 * entryMost) (now block) ⌝ }
+    requires { ⌜ LineIn 4 at step lineMost (now block) ⌝ }
     ensures { λ _. ⌜ now (block .exit) ≡ lined 4 at step (now (block .entry)) ⌝ }
 {
     let y = outputs(&block[..], at, step);
@@ -114,20 +137,21 @@ fn line4(block: &mut [i32], at: usize, step: usize)
 
 // The transform of a line of eight: the outputs of its halves, added and subtracted.
 fn line8(block: &mut [i32], at: usize, step: usize)
-    requires { ⌜ LineIn 8 at step (8 * entryMost) (now block) ⌝ }
+    requires { ⌜ LineIn 8 at step lineMost (now block) ⌝ }
     ensures { λ _. ⌜ now (block .exit) ≡ lined 8 at step (now (block .entry)) ⌝ }
 {
     let half = at + 4 * step;
     let a = outputs(&block[..], at, step);
     let b = outputs(&block[..], half, step);
-    store(block, at, step, plus(a, b));
-    store(block, half, step, minus(a, b));
+    let y = merge(a, b);
+    store(block, at, step, y.low);
+    store(block, half, step, y.high);
 }
 
 // The transform of a line of n entries.
 fn line(block: &mut [i32], n: usize, at: usize, step: usize)
     requires { ⌜ Sized n ⌝ }
-    requires { ⌜ LineIn n at step (8 * entryMost) (now block) ⌝ }
+    requires { ⌜ LineIn n at step lineMost (now block) ⌝ }
     ensures { λ _. ⌜ now (block .exit) ≡ lined n at step (now (block .entry)) ⌝ }
 {
     if n == 4 {
@@ -141,7 +165,7 @@ fn line(block: &mut [i32], n: usize, at: usize, step: usize)
 fn lines(block: &mut [i32], n: usize, first: usize, step: usize)
     requires { ⌜ Sized n ⌝ }
     requires { ⌜ LinesIn n first step (now block) ⌝ }
-    requires { ⌜ Within (8 * entryMost) (now block) ⌝ }
+    requires { ⌜ Within lineMost (now block) ⌝ }
     ensures { λ _. ⌜ now (block .exit) ≡ allLined n first step n (now (block .entry)) ⌝ }
 {
     for i in 0..n {

@@ -28,7 +28,7 @@ part-sum s start n h =
 
 module _ (k : ℕ) (s : List ℕ) (l : (i : ℕ) → getD s i 0 ≤ k) where
   -- n samples from a place on
-  pub samples-most : (start n : ℕ) → sumBelow n (λ (i : ℕ). getD s (start + i) 0) ≤ n * k
+  samples-most : (start n : ℕ) → sumBelow n (λ (i : ℕ). getD s (start + i) 0) ≤ n * k
   samples-most start n = sum-most k n (λ (i : ℕ). getD s (start + i) 0) (λ i _. l (start + i))
 
   -- n rows of a block
@@ -49,7 +49,7 @@ means-most k m n h i = omega arith
 
 module _ (k : ℕ) (p : Plane) (a : List ℕ) (q : Plane) (b : List ℕ) (l : (i : ℕ) → getD a i 0 ≤ k) (m : (i : ℕ) → getD b i 0 ≤ k) where
   -- n blocks of a row of blocks, and n such rows
-  pub differences-most : (y n : ℕ) → sumBelow n (blockDifference p a q b y) ≤ n * k
+  differences-most : (y n : ℕ) → sumBelow n (blockDifference p a q b y) ≤ n * k
   differences-most y n =
       sum-most k n (blockDifference p a q b y)
       (λ x _. means-most k (blockSum p a y x) (blockSum q b y x) (block-most k a l p y x) (block-most k b m q y x))

@@ -19,6 +19,12 @@ or-false-right : (a : Bool) → a || false ≡ a
 or-false-right true = refl
 or-false-right false = refl
 
+-- a test that never holds
+pub any-none : (n : ℕ) (f : ℕ → Bool) → ((i : ℕ) → f i ≡ false) → anyBelow n f ≡ false
+unfolding anyBelow
+any-none zero f e = refl
+any-none (suc n) f e = rw (any-none n f e, e n)
+
 -- equal tests
 pub any-ext : (n : ℕ) (f g : ℕ → Bool) → ((i : ℕ) → f i ≡ g i) → anyBelow n f ≡ anyBelow n g
 unfolding anyBelow

@@ -14,6 +14,12 @@ unfolding table
 length-table zero g = refl
 length-table (suc n) g = length-append (table n g) (g n ∷ []) ∙ omega (arith, length-table n g)
 
+-- equal rules make equal lists
+pub table-ext : {A : Type 0} (n : ℕ) (g h : ℕ → A) → ((k : ℕ) → g k ≡ h k) → table n g ≡ table n h
+unfolding table
+table-ext zero g h e = refl
+table-ext (suc n) g h e = rw (table-ext n g h e, e n)
+
 module _ {A : Type 0} (d : A) where
   pub table-at : (n : ℕ) (g : ℕ → A) (k : ℕ) → k < n → getD (table n g) k d ≡ g k
   unfolding table

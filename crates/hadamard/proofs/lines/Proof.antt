@@ -5,8 +5,7 @@ use Prim.Native.Nat.{ℕ, _*_, _-_, _≤_}
 use native.Mathlib.Omega.{arith}
 use borrow.Author.Needs.{needs}
 use lib.ListN.{length}
-use Rattle.hadamard.specs.Transform.{entryMost}
-use Rattle.hadamard.specs.Steps.{lined, allLined}
+use Rattle.hadamard.specs.Steps.{lined, allLined, lineMost}
 use Rattle.hadamard.proofs.Places.{none-lined, more-lined, length-lined, next-line}
 use Rattle.hadamard.proofs.lines.Statement.{statement}
 use Rattle.hadamard.proofs.lines.Tie as tie
@@ -31,7 +30,7 @@ line-requires c κs =
     let l = c .before .before in
     let s = l .before in (
       s .pre .0,
-      rw (l .loop .inv .1) (next-line (s .args .n) (s .args .first) (s .args .step) (s .args .block .now) (s .pre .1 .0) (8 * entryMost) (l .loop .i) (s .pre .1 .1) (omega arith)),
+      rw (l .loop .inv .1) (next-line (s .args .n) (s .args .first) (s .args .step) (s .args .block .now) (s .pre .1 .0) lineMost (l .loop .i) (s .pre .1 .1) (omega arith)),
     )
 
 add-i : tie.Need-add-i Inv-loop μ-loop

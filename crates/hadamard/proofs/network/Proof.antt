@@ -1,90 +1,69 @@
--- `hadamard::network` meets its contract: its sums and differences are those of the transform's halves, and each fits, since the
--- numbers are small. Assumes nothing.
-use mathlib.Core.Path.{_≡_, sym}
-use Prim.Native.Nat.{_*_, _<_, _^_}
+-- `hadamard::network` meets its contract: its butterflies are those of the transform's halves, and their numbers are small. Assumes nothing.
+use mathlib.Core.Path.{_≡_, ap}
 use native.Mathlib.Omega.{arith}
-use lib.IntN.{_+ℤ_, _-ℤ_, natAbs}
-use mir.Syntax.{w32}
-use mir.Val.{toZ, ofZ}
-use Rattle.hadamard.specs.declared.Four.{Four}
-use Rattle.hadamard.specs.Transform.{entryMost}
-use Rattle.hadamard.specs.Steps.{placed, Small}
-use Rattle.hadamard.proofs.SignedLaws.{abs-add, abs-sub, add-asked, sub-asked, add-read, sub-read, fits-abs, read-back}
+use Rattle.hadamard.specs.declared.Two.{Two}
+use Rattle.hadamard.specs.Steps.{twoOf, placed, lineMost}
+use Rattle.hadamard.proofs.SignedLaws.{both-small, two-is, two-read}
+use Rattle.hadamard.proofs.FourLaws.{Doubled, doubled}
 use Rattle.hadamard.proofs.Halves.{output-4}
 use Rattle.hadamard.proofs.network.Statement.{statement}
 use Rattle.hadamard.proofs.network.Tie as tie
 
--- what the four locals hold, and how large it is
-module _ (x : Four) (s : Small (8 * entryMost) x) where
-  r0 : toZ w32 (ofZ w32 (toZ w32 (ofZ w32 (x .x0)) +ℤ toZ w32 (ofZ w32 (x .x1)))) ≡ x .x0 +ℤ x .x1
-  r0 = add-read (x .x0) (x .x1) (omega arith) (omega arith)
+butterfly-requires : tie.Need-butterfly-requires
+butterfly-requires c κs = let x = c .before .before .args .x in both-small (x .x0) (x .x1) (omega arith) (omega arith)
 
-  r1 : toZ w32 (ofZ w32 (toZ w32 (ofZ w32 (x .x0)) -ℤ toZ w32 (ofZ w32 (x .x1)))) ≡ x .x0 -ℤ x .x1
-  r1 = sub-read (x .x0) (x .x1) (omega arith) (omega arith)
+butterfly-requires-2 : tie.Need-butterfly-requires-2
+butterfly-requires-2 c κs = let x = c .before .before .before .before .before .args .x in both-small (x .x2) (x .x3) (omega arith) (omega arith)
 
-  r2 : toZ w32 (ofZ w32 (toZ w32 (ofZ w32 (x .x2)) +ℤ toZ w32 (ofZ w32 (x .x3)))) ≡ x .x2 +ℤ x .x3
-  r2 = add-read (x .x2) (x .x3) (omega arith) (omega arith)
+-- the first two, and how small they are
+abbrev start : tie.After-butterfly2 → tie.Start
+start c = c .before .before .before .before .before .before
 
-  r3 : toZ w32 (ofZ w32 (toZ w32 (ofZ w32 (x .x2)) -ℤ toZ w32 (ofZ w32 (x .x3)))) ≡ x .x2 -ℤ x .x3
-  r3 = sub-read (x .x2) (x .x3) (omega arith) (omega arith)
+module _ (c : tie.After-butterfly2) where
+  first : c .before .before .before .butterfly .result ≡ twoOf (start c .args .x .x0) (start c .args .x .x1)
+  first = two-is (start c .args .x .x0) (start c .args .x .x1) (omega arith) (omega arith) _ (c .before .before .before .butterfly .ensures)
 
-  y0 : natAbs ((x .x0 +ℤ x .x1) +ℤ (x .x2 +ℤ x .x3)) < 2 ^ 31
-  y0 = omega (arith, abs-add (x .x0 +ℤ x .x1) (x .x2 +ℤ x .x3), abs-add (x .x0) (x .x1), abs-add (x .x2) (x .x3))
+  second : c .butterfly2 .result ≡ twoOf (start c .args .x .x2) (start c .args .x .x3)
+  second = two-is (start c .args .x .x2) (start c .args .x .x3) (omega arith) (omega arith) _ (c .butterfly2 .ensures)
 
-  z0 : toZ w32 (ofZ w32 ((x .x0 +ℤ x .x1) +ℤ (x .x2 +ℤ x .x3))) ≡ (x .x0 +ℤ x .x1) +ℤ (x .x2 +ℤ x .x3)
-  z0 = read-back ((x .x0 +ℤ x .x1) +ℤ (x .x2 +ℤ x .x3)) y0
+  first-small : Doubled lineMost (c .before .before .before .butterfly .result)
+  first-small = doubled lineMost (start c .args .x .x0) (start c .args .x .x1) (start c .pre .m0) (start c .pre .m1) _ first
 
-  y1 : natAbs ((x .x0 -ℤ x .x1) +ℤ (x .x2 -ℤ x .x3)) < 2 ^ 31
-  y1 = omega (arith, abs-add (x .x0 -ℤ x .x1) (x .x2 -ℤ x .x3), abs-sub (x .x0) (x .x1), abs-sub (x .x2) (x .x3))
+  second-small : Doubled lineMost (c .butterfly2 .result)
+  second-small = doubled lineMost (start c .args .x .x2) (start c .args .x .x3) (start c .pre .m2) (start c .pre .m3) _ second
 
-  z1 : toZ w32 (ofZ w32 ((x .x0 -ℤ x .x1) +ℤ (x .x2 -ℤ x .x3))) ≡ (x .x0 -ℤ x .x1) +ℤ (x .x2 -ℤ x .x3)
-  z1 = read-back ((x .x0 -ℤ x .x1) +ℤ (x .x2 -ℤ x .x3)) y1
+butterfly-requires-3 : tie.Need-butterfly-requires-3
+butterfly-requires-3 c κs =
+    let two = c .before .before in
+    let p = first-small two in
+    let q = second-small two in
+    both-small (two .before .before .before .butterfly .result .sum) (two .butterfly2 .result .sum) (omega arith) (omega arith)
 
-  y2 : natAbs ((x .x0 +ℤ x .x1) -ℤ (x .x2 +ℤ x .x3)) < 2 ^ 31
-  y2 = omega (arith, abs-sub (x .x0 +ℤ x .x1) (x .x2 +ℤ x .x3), abs-add (x .x0) (x .x1), abs-add (x .x2) (x .x3))
-
-  z2 : toZ w32 (ofZ w32 ((x .x0 +ℤ x .x1) -ℤ (x .x2 +ℤ x .x3))) ≡ (x .x0 +ℤ x .x1) -ℤ (x .x2 +ℤ x .x3)
-  z2 = read-back ((x .x0 +ℤ x .x1) -ℤ (x .x2 +ℤ x .x3)) y2
-
-  y3 : natAbs ((x .x0 -ℤ x .x1) -ℤ (x .x2 -ℤ x .x3)) < 2 ^ 31
-  y3 = omega (arith, abs-sub (x .x0 -ℤ x .x1) (x .x2 -ℤ x .x3), abs-sub (x .x0) (x .x1), abs-sub (x .x2) (x .x3))
-
-  z3 : toZ w32 (ofZ w32 ((x .x0 -ℤ x .x1) -ℤ (x .x2 -ℤ x .x3))) ≡ (x .x0 -ℤ x .x1) -ℤ (x .x2 -ℤ x .x3)
-  z3 = read-back ((x .x0 -ℤ x .x1) -ℤ (x .x2 -ℤ x .x3)) y3
-
-add-a0 : tie.Need-add-a0
-add-a0 c = let s = c .before .before in add-asked (s .args .x .x0) (s .args .x .x1) (omega arith) (omega arith)
-
-sub-a1 : tie.Need-sub-a1
-sub-a1 c = let s = c .before .before .before .before in sub-asked (s .args .x .x0) (s .args .x .x1) (omega arith) (omega arith)
-
-add-a2 : tie.Need-add-a2
-add-a2 c = let s = c .before .before .before .before .before .before in add-asked (s .args .x .x2) (s .args .x .x3) (omega arith) (omega arith)
-
-abbrev start : tie.After-struct-told4 → tie.Start
-start c = c .before .before .before .before .before .before .before .before
-
-sub-a3 : tie.Need-sub-a3
-sub-a3 c = let s = start c in sub-asked (s .args .x .x2) (s .args .x .x3) (omega arith) (omega arith)
-
-add-t6 : tie.Need-add-t6
-add-t6 c = let s = start c in let x = s .args .x in rw (r0 x (s .pre), r2 x (s .pre)) (fits-abs _ (y0 x (s .pre)))
-
-add-t7 : tie.Need-add-t7
-add-t7 c = let s = start c in let x = s .args .x in rw (r1 x (s .pre), r3 x (s .pre)) (fits-abs _ (y1 x (s .pre)))
-
-sub-t8 : tie.Need-sub-t8
-sub-t8 c = let s = start c in let x = s .args .x in rw (r0 x (s .pre), r2 x (s .pre)) (fits-abs _ (y2 x (s .pre)))
-
-sub-t9 : tie.Need-sub-t9
-sub-t9 c = let s = start c in let x = s .args .x in rw (r1 x (s .pre), r3 x (s .pre)) (fits-abs _ (y3 x (s .pre)))
+butterfly-requires-4 : tie.Need-butterfly-requires-4
+butterfly-requires-4 c κs =
+    let two = c .before .before .before .before .before in
+    let p = first-small two in
+    let q = second-small two in
+    both-small (two .before .before .before .butterfly .result .difference) (two .butterfly2 .result .difference) (omega arith) (omega arith)
 
 returns : tie.Need-returns
 returns c =
-    let s = start c in
-    let x = s .args .x in
-    simp (r0 x (s .pre), r1 x (s .pre), r2 x (s .pre), r3 x (s .pre), z0 x (s .pre), z1 x (s .pre), z2 x (s .pre), z3 x (s .pre))
-    (sym (output-4 (placed x)))
+    let four = c .before .before in
+    let three = four .before .before .before in
+    let two = three .before .before .before in
+    let one = two .before .before .before in
+    let p = first-small two in
+    let q = second-small two in
+    let y = two-read (one .butterfly .result .sum) (two .butterfly2 .result .sum) (omega arith) (omega arith) _ (three .butterfly3 .ensures) in
+    let z = two-read (one .butterfly .result .difference) (two .butterfly2 .result .difference) (omega arith) (omega arith) _ (four .butterfly4 .ensures) in
+    cc (y .0, y .1, z .0, z .1, ap (λ (t : Two). t .sum) (first two), ap (λ (t : Two). t .difference) (first two), ap (λ (t : Two). t .sum) (second two), ap (λ (t : Two). t .difference) (second two), output-4 (placed (start two .args .x)))
 
 pub network-spec : {M : Type 1} → statement M
-network-spec = tie.close (tie.spec add-a0 sub-a1 add-a2 sub-a3 add-t6 add-t7 sub-t8 sub-t9 returns)
+network-spec =
+    tie.close
+    (tie.spec
+    butterfly-requires
+    butterfly-requires-2
+    butterfly-requires-3
+    butterfly-requires-4
+    returns)

@@ -1,9 +1,7 @@
 -- `hadamard::outputs` meets its contract: what is loaded is the line's four entries. Assumes nothing.
 use mathlib.Core.Path.{_∙_}
-use Prim.Native.Nat.{_*_}
 use native.Mathlib.Omega.{arith}
-use Rattle.hadamard.specs.Transform.{entryMost}
-use Rattle.hadamard.specs.Steps.{reach}
+use Rattle.hadamard.specs.Steps.{reach, lineMost}
 use Rattle.hadamard.proofs.FourLaws.{four-small, loaded-outputs}
 use Rattle.hadamard.proofs.outputs.Statement.{statement}
 use Rattle.hadamard.proofs.outputs.Tie as tie
@@ -14,7 +12,7 @@ load-requires c κs = c .pre .room 3 (omega arith)
 network-requires : tie.Need-network-requires
 network-requires c κs =
     let s = c .before .args in
-    rw (c .load .ensures) (four-small (8 * entryMost) (reach (s .block .now) (s .at) (s .step)) (c .before .pre .most))
+    rw (c .load .ensures) (four-small lineMost (reach (s .block .now) (s .at) (s .step)) (c .before .pre .most))
 
 returns : tie.Need-returns
 returns c =

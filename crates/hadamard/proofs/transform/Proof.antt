@@ -7,7 +7,7 @@ use native.Mathlib.Omega.{arith}
 use borrow.Author.Needs.{needs}
 use mathlib.Core.Bool.{false}
 use Rattle.hadamard.specs.Transform.{entryMost, someBeyond}
-use Rattle.hadamard.specs.Steps.{allLined}
+use Rattle.hadamard.specs.Steps.{allLined, lineMost}
 use Rattle.hadamard.proofs.FourLaws.{sized-bounds}
 use Rattle.hadamard.proofs.Square.{column-lines, row-lines, long, both, columns-most}
 use Rattle.hadamard.proofs.Range.{some-counted, none-counted, within, within-more, wrong-length, too-large, accepted}
@@ -45,7 +45,7 @@ lines-requires c κs =
     let s = start e in
     let l = s .args .block .now in
     let b = sized-bounds (s .args .n) (s .pre) in
-    (s .pre, (column-lines (s .args .n) (b .0) l (e .before .before .before .if1 .left), within-more entryMost (8 * entryMost) l (omega arith) (within l (none e))))
+    (s .pre, (column-lines (s .args .n) (b .0) l (e .before .before .before .if1 .left), within-more entryMost lineMost l (omega arith) (within l (none e))))
 
 lines-requires-2 : tie.Need-lines-requires-2
 lines-requires-2 c κs =
@@ -60,7 +60,7 @@ lines-requires-2 c κs =
       s .pre,
       (
         row-lines n (b .0) (allLined n 1 n n l) (long n (b .0) l size),
-        within-more (n * entryMost) (8 * entryMost) (allLined n 1 n n l) (mul-le-mul-right entryMost (b .1)) (columns-most n (b .0) l size entryMost (within l (none e))),
+        within-more (n * entryMost) lineMost (allLined n 1 n n l) (mul-le-mul-right entryMost (b .1)) (columns-most n (b .0) l size entryMost (within l (none e))),
       ),
     )
 
