@@ -2,10 +2,11 @@
 -- Assumes nothing.
 use mathlib.Core.Path.{_≡_, refl, sym, _∙_, ap}
 use mathlib.Core.Bool.{true, false, and-false}
-use lib.ListN.{length, getD, List·getD-eq-default}
+use lib.ListN.{length, drop, getD, List·getD-eq-default}
 use lib.Ieee.{le, lt, eq}
+use Rattle.score.specs.Search.{anyOf}
 use Rattle.score.specs.Deque.{content, noScore}
-use Rattle.score.specs.Cut.{over, cutOf}
+use Rattle.score.specs.Cut.{over, reached, cutOf}
 use Rattle.score.proofs.Room.{entries-of, count-of}
 use native.Mathlib.Omega.{arith}
 use borrow.Author.Needs.{needs}
@@ -35,7 +36,7 @@ returns-2 c =
     let d = w .before .args .d in
     let k = count-of (w .within .result) (content d) (w .within .ensures .0) in
     let none : getD (content d) (w .before .args .o) noScore ≡ noScore = List·getD-eq-default (content d) noScore (omega arith) in
-    rw (none, unset) (sym (and-false _))
+    rw (none, unset) (sym (and-false (anyOf (reached (w .before .args .t)) (drop (w .before .args .o) (content d)))))
 
 pub adaptive-scenecut-spec : {M : Type 1} → statement M
 adaptive-scenecut-spec = tie.close (tie.spec within-requires cut-at-requires returns returns-2)
