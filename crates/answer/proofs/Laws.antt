@@ -14,14 +14,14 @@ use Rattle.answer.specs.declared.Real.{Real}
 use Rattle.answer.specs.declared.Real.the-variants as real
 
 -- a refusal that is given comes first
-pub or-first : (f g : ℕ) → (f ≡ 0 → ⊥) → f ≡ f orElse g
+pub or-given : (r f g : ℕ) → r ≡ f → (r ≡ 0 → ⊥) → r ≡ f orElse g
 unfolding _orElse_
-or-first f g h = rw (ne-eqb f 0 h)
+or-given r f g e h = rw (← e, ne-eqb r 0 h)
 
 -- and where it is not, the next ones speak
-pub or-next : (f g : ℕ) → f ≡ 0 → f orElse g ≡ g
+pub or-later : (r f g : ℕ) → 0 ≡ f → r ≡ g → r ≡ f orElse g
 unfolding _orElse_
-or-next f g e = rw e
+or-later r f g e d = rw (← e, d)
 
 -- where nothing is refused, neither refuses
 pub or-none : (f g : ℕ) → f orElse g ≡ 0 → (f ≡ 0) × (g ≡ 0)
@@ -38,13 +38,22 @@ passed k true e = absurd (suc-ne-zero k e)
 passed k false e = refl
 
 -- an answer from its refusal's number: none, or one
-pub answer-given : {A : Type 0} (fault : ℕ) (a : A) → fault ≡ 0 → answered fault a ≡ gives a
+pub answer-given : {A : Type 0} (fault : ℕ) (a b : A) → 0 ≡ fault → b ≡ a → gives b ≡ answered fault a
 unfolding answered
-answer-given fault a e = rw e
+answer-given fault a b e d = rw (← e, d)
 
-pub answer-refused : {A : Type 0} (fault : ℕ) (a : A) → (fault ≡ 0 → ⊥) → answered fault a ≡ refused fault
+pub answer-refused : {A : Type 0} (r fault : ℕ) (a : A) → r ≡ fault → (r ≡ 0 → ⊥) → refused r ≡ answered fault a
 unfolding answered
-answer-refused fault a h = rw (ne-eqb fault 0 h)
+answer-refused r fault a e h = rw (← e, ne-eqb r 0 h)
+
+-- two values that agree where nothing is refused make one answer
+pub answer-same : {A : Type 0} (fault : ℕ) (a b : A) → (fault ≡ 0 → a ≡ b) → answered fault a ≡ answered fault b
+unfolding answered
+answer-same fault a b e = by-case (eqb fault 0) (λ t. e (eqb-true fault 0 t))
+  where
+    by-case : (t : Bool) → (t ≡ true → a ≡ b) → cond t (gives a) (refused fault) ≡ cond t (gives b) (refused fault)
+    by-case true e = ap gives (e refl)
+    by-case false e = refl
 
 -- two enum answers with the same number and value are the same: the way back gives each
 module _ {E A : Type 0} (to : E → Answer A) (back : Answer A → E) (same : (r : E) → back (to r) ≡ r) where

@@ -1,0 +1,38 @@
+-- Each contract of this crate allows one result alone. Assumes nothing.
+use mathlib.Core.Path.{sym, _∙_}
+use mathlib.Core.Bool.{Bool}
+use mathlib.Core.List.{List}
+use Prim.Native.Nat.{ℕ}
+use denote.Ref.{now}
+use Rattle.answer.specs.Unique.{OneOutcome}
+use Rattle.plane.proofs.bad_side.Kinds as bad-side-kinds
+use Rattle.plane.proofs.bad_side.Reads as bad-side-reads
+use Rattle.plane.proofs.Plane.fault.Kinds as fault-kinds
+use Rattle.plane.proofs.Plane.fault.Reads as fault-reads
+use Rattle.plane.proofs.Plane.row.Kinds as row-kinds
+use Rattle.plane.proofs.Plane.row.Reads as row-reads
+use Rattle.plane.proofs.depth_fault.Kinds as depth-fault-kinds
+use Rattle.plane.proofs.depth_fault.Reads as depth-fault-reads
+use Rattle.plane.proofs.pair_fault.Kinds as pair-fault-kinds
+use Rattle.plane.proofs.pair_fault.Reads as pair-fault-reads
+
+pub bad-side-unique : OneOutcome 0 bad-side-kinds.ps bad-side-kinds.r Bool (λ κs r e. r) bad-side-reads.Post
+unfolding OneOutcome
+bad-side-unique κs a r r′ e e′ p q = p ∙ sym q
+
+pub fault-unique : OneOutcome 0 fault-kinds.ps fault-kinds.r ℕ (λ κs r e. r) fault-reads.Post
+unfolding OneOutcome
+fault-unique κs a r r′ e e′ p q = p ∙ sym q
+
+-- of a part that is handed back, what it holds
+pub row-unique : OneOutcome 1 row-kinds.ps row-kinds.r (List ℕ) (λ κs r e. now r) row-reads.Post
+unfolding OneOutcome
+row-unique κs a r r′ e e′ p q = p ∙ sym q
+
+pub depth-fault-unique : OneOutcome 0 depth-fault-kinds.ps depth-fault-kinds.r ℕ (λ κs r e. r) depth-fault-reads.Post
+unfolding OneOutcome
+depth-fault-unique κs a r r′ e e′ p q = p ∙ sym q
+
+pub pair-fault-unique : OneOutcome 0 pair-fault-kinds.ps pair-fault-kinds.r ℕ (λ κs r e. r) pair-fault-reads.Post
+unfolding OneOutcome
+pair-fault-unique κs a r r′ e e′ p q = p ∙ sym q

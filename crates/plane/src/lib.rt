@@ -1,0 +1,126 @@
+// A plane, as v_frame's Plane: a plain record beside a lent slice of samples, and when document 01 refuses it.
+ghost use mathlib.Core.Path.{_≡_};
+ghost use Prim.Native.Nat.{_*_};
+ghost use lib.Dec.{leb};
+ghost use Rattle.plane.specs.Planes.{badSide, rowEnd, rowOf, planeFault, sizesFault, depthFault, pairFault};
+
+// The largest side, of a plane as of a resolution.
+const MAX_SIDE: usize = 8192;
+
+// The only depth so far.
+const DEPTH: u32 = 8;
+
+// A plane over lent samples: sample (x, y) is at origin + y * stride + x.
+pub struct Plane {
+    pub width: usize,
+    pub height: usize,
+    pub stride: usize,
+    pub origin: usize,
+}
+
+// Whether a side is 0 or above the largest.
+pub fn bad_side(n: usize) -> bool
+    ensures { λ r. ⌜ r ≡ badSide n ⌝ }
+{
+    (n == 0) | (MAX_SIDE < n)
+}
+
+// Whether y strides fit into a room: by the product where it cannot overflow, which is quick, and else by a division.
+fn strides_fit(y: usize, stride: usize, room: usize) -> bool
+    ensures { λ r. ⌜ r ≡ leb (y * stride) room ⌝ }
+{
+    if y < 65536 {
+        if stride < 0x1_0000_0000_0000 {
+            return y * stride <= room;
+        }
+    }
+    if y == 0 {
+        return true;
+    }
+    stride <= room / y
+}
+
+impl Plane {
+    // Whether row y ends within n samples. The sum itself may pass 2^64, so the room that is left is counted down.
+    fn row_lies(self, n: usize, y: usize) -> bool
+        ensures { λ r. ⌜ r ≡ leb (rowEnd self y) n ⌝ }
+    {
+        let width = self.width;
+        let origin = self.origin;
+        if n < width {
+            return false;
+        }
+        let before = n - width;
+        if before < origin {
+            return false;
+        }
+        strides_fit(y, self.stride, before - origin)
+    }
+
+    // Refusal 1 or 2 of the plane over n samples, or 0.
+    pub fn fault(self, n: usize) -> u32
+        ensures { λ r. ⌜ r ≡ planeFault self n ⌝ }
+    {
+        let width = self.width;
+        let height = self.height;
+        let stride = self.stride;
+        if bad_side(width) | bad_side(height) | (stride < width) {
+            return 1;
+        }
+        if self.row_lies(n, height - 1) {
+            return 0;
+        }
+        2
+    }
+
+    // Row y of the plane: its visible samples as a part of the lent ones, or none where they do not lie within.
+    pub fn row(self, s: &[u8], y: usize) -> &[u8]
+        ensures { λ r. ⌜ now r ≡ rowOf self (now (s .entry)) y ⌝ }
+    {
+        let width = self.width;
+        let stride = self.stride;
+        let origin = self.origin;
+        if self.row_lies(s.len(), y) {
+            let start = origin + y * stride;
+            return &s[start..start + width];
+        }
+        &s[0..0]
+    }
+}
+
+// Refusal 5, for a depth other than 8, or 0.
+pub fn depth_fault(depth: u32) -> u32
+    ensures { λ r. ⌜ r ≡ depthFault depth ⌝ }
+{
+    if depth == DEPTH { 0 } else { 5 }
+}
+
+// The refusal of two planes over n and m samples, or 0: 1 and 2 of the first, 1 and 2 of the second, and 3 where their
+// sizes differ.
+fn sizes_fault(p: Plane, n: usize, q: Plane, m: usize) -> u32
+    ensures { λ r. ⌜ r ≡ sizesFault p n q m ⌝ }
+{
+    let first = p.fault(n);
+    if first != 0 {
+        return first;
+    }
+    let second = q.fault(m);
+    if second != 0 {
+        return second;
+    }
+    if (p.width != q.width) | (p.height != q.height) {
+        return 3;
+    }
+    0
+}
+
+// The refusal of a measure of two planes, or 0: of the depth first, then of the planes.
+pub fn pair_fault(depth: u32, p: Plane, n: usize, q: Plane, m: usize) -> u32
+    ensures { λ r. ⌜ r ≡ pairFault depth p n q m ⌝ }
+{
+    let fault = depth_fault(depth);
+    if fault != 0 {
+        return fault;
+    }
+    sizes_fault(p, n, q, m)
+}

@@ -1,0 +1,3 @@
+pub mod SadLaws
+pub mod Visible
+pub mod Unique

@@ -1,0 +1,30 @@
+-- Document 01, "Plane difference and scale": the sum of absolute differences over the visible samples, and delta.
+use Prim.Native.Nat.{ℕ, _*_}
+use mathlib.Core.List.{List}
+use lib.Ieee.{Float}
+use lib.ListN.{length, getD}
+use Rattle.answer.specs.Answer.{Answer, answered}
+use Rattle.plane.specs.Planes.{sampleAt, pairFault}
+use Rattle.plane.specs.declared.Plane.{Plane}
+use Rattle.sums.specs.Quotient.{quotientOf}
+use Rattle.sums.specs.Sums.{sumBelow, apart}
+
+-- how far the numbers at place x of two rows lie apart
+abbrev pub gapAt : List ℕ → List ℕ → ℕ → ℕ
+gapAt a b x = apart (getD a x 0) (getD b x 0)
+
+-- row y's part of the sum
+abbrev pub rowSad : Plane → List ℕ → Plane → List ℕ → ℕ → ℕ
+rowSad p a q b y = sumBelow (p .width) (λ (x : ℕ). apart (sampleAt p a y x) (sampleAt q b y x))
+
+-- "Its sum of absolute differences covers the visible samples"
+unfoldable pub planeSad : Plane → List ℕ → Plane → List ℕ → ℕ
+planeSad p a q b = sumBelow (p .height) (rowSad p a q b)
+
+abbrev pub differenceOf : ℕ → Plane → List ℕ → Plane → List ℕ → Answer ℕ
+differenceOf depth p a q b = answered (pairFault depth p (length a) q (length b)) (planeSad p a q b)
+
+-- "Delta is that sum over width × height."
+abbrev pub deltaOf : ℕ → Plane → List ℕ → Plane → List ℕ → Answer Float
+deltaOf depth p a q b =
+    answered (pairFault depth p (length a) q (length b)) (quotientOf (planeSad p a q b) (p .width * p .height))
