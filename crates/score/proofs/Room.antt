@@ -37,3 +37,6 @@ entries-of d l e = ap (λ (h : Held). h .entries) e
 
 pub count-of : (d : ScoreDeque) (l : List ScenecutResult) → held d ≡ holding l → d .count ≡ length l
 count-of d l e = ap (λ (h : Held). h .count) e
+
+pub exact-of : (d : ScoreDeque) (l : List ScenecutResult) → held d ≡ holding l → d .count ≡ length (content d)
+exact-of d l e = count-of d l e ∙ ap length (sym (entries-of d l e))

@@ -1,0 +1,4 @@
+pub mod Rules
+pub mod Step
+pub mod Fresh
+pub mod Needs
