@@ -13,6 +13,7 @@ use score::ScoreDeque;
 use settings::Settings;
 
 mod rules;
+pub mod runs;
 
 // Whether a pair is a cut, and its score if there is one.
 pub enum Decision {
