@@ -1,3 +1,4 @@
 pub mod Long
 pub mod Starts
 pub mod Calls
+pub mod Unique

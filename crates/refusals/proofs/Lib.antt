@@ -1,3 +1,4 @@
 pub mod Tests
 pub mod Room
 pub mod Fine
+pub mod Unique

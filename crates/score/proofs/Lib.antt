@@ -4,3 +4,4 @@ pub mod Shift
 pub mod Counts
 pub mod Walk
 pub mod Update
+pub mod Unique
