@@ -1,4 +1,5 @@
 pub mod Long
 pub mod Starts
 pub mod Calls
+pub mod Views
 pub mod Unique

@@ -4,4 +4,5 @@ pub mod Shift
 pub mod Counts
 pub mod Walk
 pub mod Update
+pub mod Floats
 pub mod Unique
