@@ -2,4 +2,6 @@ pub mod Long
 pub mod Starts
 pub mod Calls
 pub mod Views
+pub mod Costs
+pub mod Reach
 pub mod Unique
