@@ -10,7 +10,7 @@ use lib.Ieee.{Float, nan, ofBits, lt, le, eq}
 use Rattle.score.specs.declared.ScenecutResult.{ScenecutResult}
 use Rattle.score.specs.declared.Measure.{Measure}
 use Rattle.score.specs.Search.{anyOf}
-use Rattle.score.specs.Scores.{zeroF, updatedFrom, scoreOf}
+use Rattle.score.specs.Scores.{updatedFrom, scoreOf}
 use Rattle.score.specs.Costs.{forbidden, forbiddenEntry}
 use Rattle.refusals.proofs.Tests.{or-left, or-right}
 use Rattle.detector.specs.Rules.{againOf, itemsOf}

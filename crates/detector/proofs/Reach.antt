@@ -1,16 +1,15 @@
 -- Every state that calls reach from a fresh detector passes 11: a refused call leaves the state, and an accepted one leaves fewer
 -- entries than the room, an offset below their number and inter costs that were allowed.
 -- Assumes nothing.
-use mathlib.Core.Path.{_≡_, refl, sym, ap, _∙_}
+use mathlib.Core.Path.{_≡_, refl, _∙_}
 use mathlib.Core.Bool.{Bool, true, false, not, _&&_, cond}
 use mathlib.Core.List.{List, [], _∷_}
 use Prim.Native.Nat.{ℕ, _+_, _-_, _≤_, _<_}
 use native.Mathlib.Omega.{arith}
-use borrow.Author.Tests.{lt-ltb, le-ltb, ltb-true, ltb-false, leb-false, eq-eqb, ne-eqb, eqb-true, eqb-false}
+use borrow.Author.Tests.{lt-ltb, ltb-true, ltb-false, leb-false, eq-eqb, ne-eqb, eqb-true, eqb-false}
 use lib.Dec.{eqb, ltb, leb}
 use lib.ListN.{length, take}
 use lib.Seq.{length-take-le}
-use lib.Ieee.{Float}
 use Rattle.answer.specs.Answer.{Answer, gives, refused}
 use Rattle.settings.specs.declared.Settings.{Settings}
 use Rattle.settings.specs.Settings.{room, normalLookahead, lookaheadOffset, isNone, isFast, isScaled, fastThreshold, settingsFault}
@@ -20,9 +19,9 @@ use Rattle.score.specs.Search.{anyOf}
 use Rattle.score.specs.Scores.{scoreOf}
 use Rattle.score.specs.Costs.{forbidden}
 use Rattle.refusals.specs.State.{View, Call}
-use Rattle.refusals.specs.Refusals.{stateFault, stepFault, badList}
+use Rattle.refusals.specs.Refusals.{stateFault, stepFault}
 use Rattle.refusals.proofs.Tests.{or-right, and-right, and-both, positive}
-use Rattle.refusals.proofs.Fine.{Shape, Fine, fine, long}
+use Rattle.refusals.proofs.Fine.{Fine, fine, long}
 use Rattle.refusals.proofs.Passes.{Well, well, passes}
 use Rattle.detector.specs.Rules.{Turn, againOf, itemsOf, rule7, nextOf}
 use Rattle.detector.specs.Step.{Verdict, Outcome, itemOf, progressOf, acceptedOf, stepOf}

@@ -11,7 +11,7 @@ use Rattle.detector.specs.declared.StepAnswer.{StepAnswer}
 use Rattle.detector.specs.declared.StepAnswer.the-variants.{Refused, Decided}
 use Rattle.detector.specs.declared.Decision.{Decision}
 use Rattle.detector.specs.declared.Decision.the-variants.{Bare, Scored}
-use Rattle.detector.specs.Step.{Verdict, Outcome, verdict, stepAnswer, outcome}
+use Rattle.detector.specs.Step.{Verdict, Outcome, stepAnswer, outcome}
 use Rattle.detector.specs.Fresh.{Opening, opened}
 use Rattle.detector.proofs.fresh.Kinds as fresh-kinds
 use Rattle.detector.proofs.fresh.Reads as fresh-reads

@@ -2,11 +2,10 @@
 -- Assumes nothing.
 use mathlib.Core.Path.{_≡_, refl, sym, ap, _∙_}
 use mathlib.Core.Bool.{Bool, true, false, cond}
-use mathlib.Core.List.{List}
 use Prim.Native.Nat.{ℕ, _≤_, _<_}
 use native.Mathlib.Omega.{arith}
 use lib.Dec.{eqb, leb}
-use lib.ListN.{length, take, getD}
+use lib.ListN.{length, getD}
 use lib.Seq.{ext-getD, getD-take, length-take-le}
 use Rattle.settings.specs.Settings.{lookaheadOffset, isNone}
 use Rattle.score.specs.declared.ScoreDeque.{ScoreDeque}

@@ -1,8 +1,6 @@
 -- The abstract state and a call of the step. Every contract about a state speaks of its view.
 use mathlib.Core.List.{List}
-use mathlib.Core.Bool.{Bool, not}
 use Prim.Native.Nat.{ℕ}
-use lib.Dec.{eqb}
 use lib.Ieee.{Float}
 use Rattle.settings.specs.declared.Settings.{Settings}
 use Rattle.score.specs.declared.ScenecutResult.{ScenecutResult}

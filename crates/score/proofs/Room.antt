@@ -1,7 +1,7 @@
 -- A deque has room for 16 entries, which is what owning one tells; so as many entries as it holds are its count, within the room.
 -- Assumes nothing.
-use mathlib.Core.Path.{_≡_, refl, sym, _∙_, ap}
-use mathlib.Core.List.{List, map}
+use mathlib.Core.Path.{_≡_, sym, _∙_, ap}
+use mathlib.Core.List.{List}
 use Prim.Native.Nat.{ℕ, min, _≤_}
 use native.Mathlib.Omega.{arith}
 use lib.ListN.{length, take, length-map, length-take}

@@ -5,7 +5,7 @@ ghost use lib.ListN.{take, drop};
 ghost use Rattle.settings.specs.Settings.{room};
 ghost use Rattle.score.specs.Search.{anyOf, countOf};
 ghost use Rattle.score.specs.Deque.{content};
-ghost use Rattle.score.specs.Cut.{over, reached, requiredOf, noFlash, cutOf};
+ghost use Rattle.score.specs.Cut.{over, requiredOf, noFlash, cutOf};
 ghost use Rattle.score.specs.Costs.{forbidden, forbiddenEntry, asked};
 use super::F64_MAX;
 use super::ScenecutResult;

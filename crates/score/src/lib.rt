@@ -2,7 +2,7 @@
 ghost use mathlib.Core.Path.{_≡_};
 ghost use mathlib.Core.List.{[], _∷_};
 ghost use Prim.Native.Nat.{min, _≤_};
-ghost use lib.ListN.{length, take, getD};
+ghost use lib.ListN.{take, getD};
 ghost use Rattle.settings.specs.Settings.{room};
 ghost use Rattle.score.specs.Deque.{scoreFrom, noScore, content, held, holding, trimmedTo};
 use settings::Settings;

@@ -1,6 +1,6 @@
 -- A mode and a depth say the same in 32 bits: a number above 255 is refused as 255 is, since no test asks for a number so large.
 -- Assumes nothing.
-use mathlib.Core.Path.{_≡_, refl, sym}
+use mathlib.Core.Path.{_≡_, refl}
 use mathlib.Core.Bool.{Bool, true, false}
 use Prim.Native.Nat.{ℕ, _<_, min}
 use native.Mathlib.Omega.{arith}

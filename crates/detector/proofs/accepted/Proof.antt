@@ -1,10 +1,10 @@
 -- `accepted` meets its contract: each rule's function gives its rule, and what they ask follows from no refusal being given.
 -- Assumes nothing.
-use mathlib.Core.Path.{_≡_, refl, sym, _∙_, ap}
+use mathlib.Core.Path.{_≡_, sym, _∙_, ap}
 use mathlib.Core.Bool.{Bool, true, false}
 use mathlib.Core.List.{List}
 use mathlib.Core.Option.{some}
-use Prim.Native.Nat.{ℕ, _+_, _-_, _≤_, _<_}
+use Prim.Native.Nat.{ℕ, _+_, _-_, _<_}
 use borrow.Author.Tests.{le-leb, lt-leb, ne-eqb, eqb-true}
 use denote.Ref.{now}
 use lib.Dec.{leb}
@@ -19,7 +19,7 @@ use Rattle.refusals.proofs.Room.{state-room}
 use Rattle.refusals.proofs.Fine.{Shape, Fine, fine, long}
 use Rattle.detector.specs.Step.{Outcome, itemOf, progressOf, scoredOf, acceptedOf}
 use Rattle.detector.specs.Rules.{Turn, rule5, rule6, rule7, nextOf}
-use Rattle.detector.specs.Needs.{Covers, Startable, turn}
+use Rattle.detector.specs.Needs.{Covers, turn}
 use Rattle.detector.proofs.Starts.{lookahead-small, above, two}
 use native.Mathlib.Omega.{arith}
 use borrow.Author.Needs.{needs}

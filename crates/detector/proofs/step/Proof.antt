@@ -1,6 +1,6 @@
 -- `step` meets its contract: the refusal is asked for first, and without one the rules are those of an accepted call.
 -- Assumes nothing.
-use mathlib.Core.Path.{_≡_, refl, sym, _∙_}
+use mathlib.Core.Path.{refl, sym, _∙_}
 use borrow.Author.Tests.{ne-eqb}
 use Rattle.detector.specs.Step.{stepOf}
 use borrow.Author.Needs.{needs}

@@ -14,7 +14,7 @@ use Rattle.refusals.proofs.any_forbidden.Statement.{statement}
 use Rattle.refusals.proofs.any_forbidden.Tie as tie
 
 abbrev Inv-loop : tie.InvT-loop
-Inv-loop nan-allowed list i₀ i-end i =     (i ≤ length list) × ((i-end ≡ length list) × (anyOf (forbidden nan-allowed) list ≡ anyOf (forbidden nan-allowed) (drop i list)))
+Inv-loop nan-allowed list i₀ i-end i = (i ≤ length list) × ((i-end ≡ length list) × (anyOf (forbidden nan-allowed) list ≡ anyOf (forbidden nan-allowed) (drop i list)))
 
 abbrev μ-loop : tie.MeasureT-loop
 μ-loop nan-allowed list i₀ i-end i = length list - i

@@ -1,7 +1,7 @@
 -- `lists_fault` meets its contract: each mode looks at the lists that it reads, in the definition's order.
 -- Assumes nothing.
-use mathlib.Core.Path.{_≡_, sym, _∙_}
-use borrow.Author.Tests.{eq-eqb, ne-eqb}
+use mathlib.Core.Path.{sym, _∙_}
+use borrow.Author.Tests.{ne-eqb}
 use Rattle.refusals.specs.Refusals.{listsFault}
 use borrow.Author.Needs.{needs}
 use Rattle.refusals.proofs.lists_fault.Statement.{statement}

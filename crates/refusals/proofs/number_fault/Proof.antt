@@ -1,6 +1,6 @@
 -- `number_fault` meets its contract: n - 1 is taken only where n is not 0, and the tests are the definition's.
 -- Assumes nothing.
-use borrow.Author.Tests.{eq-eqb, ne-eqb}
+use borrow.Author.Tests.{ne-eqb}
 use Rattle.refusals.specs.Refusals.{numberFault}
 use borrow.Author.Needs.{needs}
 use Rattle.refusals.proofs.number_fault.Statement.{statement}

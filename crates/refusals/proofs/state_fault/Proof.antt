@@ -1,7 +1,6 @@
 -- `state_fault` meets its contract: a count above the room is refused before a slot is read, as the number of entries is.
 -- Assumes nothing.
 use mathlib.Core.Path.{_≡_, sym, _∙_}
-use Prim.Native.Nat.{min}
 use lib.ListN.{length}
 use Rattle.settings.specs.Settings.{room}
 use Rattle.score.specs.Deque.{content}

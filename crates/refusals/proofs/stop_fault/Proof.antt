@@ -1,6 +1,5 @@
 -- `stop_fault` meets its contract: its test is the definition's, over the offset that the settings give.
 -- Assumes nothing.
-use mathlib.Core.Path.{_≡_, sym, _∙_}
 use Rattle.refusals.specs.Refusals.{stopFault}
 use borrow.Author.Needs.{needs}
 use Rattle.refusals.proofs.stop_fault.Statement.{statement}

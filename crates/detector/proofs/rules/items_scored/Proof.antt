@@ -1,7 +1,6 @@
 -- `items_scored` meets its contract: after i turns the deque holds the list with items 0 to i - 1 scored, which the room has place for.
 -- Assumes nothing.
 use mathlib.Core.Path.{_≡_, refl, sym, _∙_, ap}
-use mathlib.Core.List.{List}
 use Prim.Native.Nat.{_+_, _-_, _≤_, _<_}
 use native.Mathlib.Numerals.{add-one}
 use lib.ListN.{length, length-take}

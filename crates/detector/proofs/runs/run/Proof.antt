@@ -1,8 +1,7 @@
 -- `run` meets its contract: the run from the start is the run from call j on, from where the calls before it ended.
 -- Assumes nothing.
-use mathlib.Core.Path.{_≡_, refl, sym, _∙_, ap}
-use mathlib.Core.List.{List}
-use Prim.Native.Nat.{ℕ, _+_, _-_, _≤_}
+use mathlib.Core.Path.{_≡_, sym, _∙_, ap}
+use Prim.Native.Nat.{_+_, _-_, _≤_}
 use denote.Ref.{now}
 use lib.ListN.{take, drop, getD}
 use Rattle.refusals.specs.State.{Call, call}

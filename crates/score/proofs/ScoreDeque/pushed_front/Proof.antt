@@ -1,9 +1,9 @@
 -- `pushed_front` meets its contract: each turn puts the carried entry down and takes up the one that stood there, so that after i turns
 -- the first i slots are those of the list with s in front.
 -- Assumes nothing.
-use mathlib.Core.Path.{_≡_, refl, sym, _∙_, ap}
+use mathlib.Core.Path.{_≡_, sym, _∙_, ap}
 use mathlib.Core.List.{List, _∷_}
-use Prim.Native.Nat.{ℕ, suc, _+_, _-_, _≤_, min}
+use Prim.Native.Nat.{suc, _+_, _-_, _≤_}
 use native.Mathlib.Numerals.{add-one}
 use lib.ListN.{length, take, length-take}
 use Rattle.settings.specs.Settings.{room}

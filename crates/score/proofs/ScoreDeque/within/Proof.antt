@@ -1,6 +1,6 @@
 -- `within` meets its contract: a count above the room holds all the slots, as a count of the room does.
 -- Assumes nothing.
-use mathlib.Core.Path.{_≡_, _∙_, sym}
+use mathlib.Core.Path.{_≡_, sym}
 use lib.ListN.{length}
 use Rattle.settings.specs.Settings.{room}
 use Rattle.score.specs.Deque.{content}

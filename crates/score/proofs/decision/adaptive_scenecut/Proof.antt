@@ -1,8 +1,8 @@
 -- `adaptive_scenecut` meets its contract: where there is no entry o, the NaNs that stand for it are not over.
 -- Assumes nothing.
-use mathlib.Core.Path.{_≡_, refl, sym, _∙_, ap}
+use mathlib.Core.Path.{_≡_, refl, sym}
 use mathlib.Core.Bool.{true, false, and-false}
-use lib.ListN.{length, drop, getD, List·getD-eq-default}
+use lib.ListN.{drop, getD, List·getD-eq-default}
 use lib.Ieee.{le, lt, eq}
 use Rattle.score.specs.Search.{anyOf}
 use Rattle.score.specs.Deque.{content, noScore}

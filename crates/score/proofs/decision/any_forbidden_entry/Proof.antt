@@ -1,6 +1,5 @@
 -- `any_forbidden_entry` meets its contract: it is the search from entry 0 on.
 -- Assumes nothing.
-use mathlib.Core.Path.{_∙_, ap}
 use Rattle.score.specs.Deque.{content}
 use Rattle.score.proofs.Room.{entries-of}
 use borrow.Author.Needs.{needs}

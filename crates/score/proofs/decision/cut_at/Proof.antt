@@ -2,7 +2,7 @@
 -- Assumes nothing.
 use mathlib.Core.Path.{_≡_, sym, _∙_}
 use mathlib.Core.Bool.{true, false}
-use lib.ListN.{take, drop, getD}
+use lib.ListN.{drop, getD}
 use lib.Seq.{getD-take, take-take}
 use Rattle.score.specs.Deque.{content, noScore}
 use Rattle.score.specs.Search.{anyOf}

@@ -1,7 +1,7 @@
 -- `run_comparison` meets its contract: the score that the definition puts in front is pushed, and in Standard the entries behind it are
 -- updated first.
 -- Assumes nothing.
-use mathlib.Core.Path.{_∙_, ap}
+use mathlib.Core.Path.{_∙_}
 use Rattle.score.specs.Deque.{content}
 use Rattle.score.proofs.Room.{entries-of}
 use borrow.Author.Needs.{needs}

@@ -1,10 +1,10 @@
 -- `Settings::scaled` meets its contract: the factor comes from the scale rule, and a refused size has none.
 -- Assumes nothing.
-use mathlib.Core.Path.{_≡_, sym, _∙_, ap}
+use mathlib.Core.Path.{_≡_, _∙_, ap}
 use Prim.Native.Nat.{ℕ}
-use Rattle.answer.specs.Answer.{Answer, wholeAnswer}
+use Rattle.answer.specs.Answer.{wholeAnswer}
 use Rattle.scale.specs.Scale.{factorAnswer}
-use Rattle.settings.specs.Settings.{isScaled, scales}
+use Rattle.settings.specs.Settings.{isScaled}
 use Rattle.settings.proofs.Small.{factor-narrow}
 use borrow.Author.Needs.{needs}
 use Rattle.settings.proofs.Settings.scaled.Statement.{statement}
