@@ -89,14 +89,21 @@ rule7 g l = trimmedTo (normalLookahead + lookaheadOffset g) l
 abbrev pub firstOf : View → ℕ → ℕ
 firstOf s n = cond (eqb (s .lastNumber) 0) n (s .firstNumber)
 
+-- the 7 and the 9 of the next rule
+abbrev pub releaseLength : ℕ
+releaseLength = 7
+
+abbrev pub releaseReach : ℕ
+releaseReach = 9
+
 -- "After an accepted call n with L ≥ 7, A = 5, not None mode"
 abbrev pub releases : Settings → ℕ → Bool
-releases g long = leb 7 long && (eqb (lookaheadOffset g) normalLookahead && not (isNone g))
+releases g long = leb releaseLength long && (eqb (lookaheadOffset g) normalLookahead && not (isNone g))
 
 -- ".. it is the larger of a and n − 9. Other calls keep it."
 abbrev pub releaseOf : View → ℕ → ℕ → ℕ
 releaseOf s long n =
-    cond (releases (s .settings) long) (max (firstOf s n) (n - 9)) (cond (eqb (s .lastNumber) 0) n (s .release))
+    cond (releases (s .settings) long) (max (firstOf s n) (n - releaseReach)) (cond (eqb (s .lastNumber) 0) n (s .release))
 
 -- the state after an accepted call, with the entries and the offset that it leaves
 abbrev pub nextOf : View → ℕ → ℕ → List ScenecutResult → ℕ → View

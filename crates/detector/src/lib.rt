@@ -4,7 +4,7 @@ ghost use Prim.Native.Nat.{_-_, max};
 ghost use Rattle.score.specs.Deque.{content};
 ghost use Rattle.refusals.specs.State.{view, call};
 ghost use Rattle.refusals.specs.Refusals.{stepFault};
-ghost use Rattle.detector.specs.Rules.{releases, nextOf};
+ghost use Rattle.detector.specs.Rules.{releaseReach, releases, nextOf};
 ghost use Rattle.detector.specs.Step.{outcome, acceptedOf, stepOf};
 ghost use Rattle.detector.specs.Fresh.{freshView, opened, openedOf};
 use refusals::State;
@@ -20,6 +20,11 @@ pub enum Decision {
     Bare(bool),
     Scored(bool, ScenecutResult),
 }
+
+// The set length from which a call moves the release number, and how far behind its number that lies.
+const RELEASE_LENGTH: usize = 7;
+
+const RELEASE_REACH: u64 = 9;
 
 // What the step answers: the number of a refusal, or a decision.
 pub enum StepAnswer {
@@ -72,9 +77,12 @@ fn larger(a: u64, b: u64) -> u64
 
 // The number of the call that lies as far back as any that the deque still needs; 0 where there is none.
 fn reach_back(n: u64) -> u64
-    ensures { λ r. ⌜ r ≡ n - 9 ⌝ }
+    ensures { λ r. ⌜ r ≡ n - releaseReach ⌝ }
 {
-    if n <= 9 { 0 } else { n - 9 }
+    if n <= RELEASE_REACH {
+        return 0;
+    }
+    n - RELEASE_REACH
 }
 
 // Whether a call moves the release number.
@@ -82,7 +90,7 @@ fn moves_release(g: Settings, length: usize) -> bool
     ensures { λ r. ⌜ r ≡ releases g length ⌝ }
 {
     let a = g.lookahead_offset();
-    (7 <= length) & ((a == Settings::NORMAL_LOOKAHEAD) & (g.mode != Settings::NONE))
+    (RELEASE_LENGTH <= length) & ((a == Settings::NORMAL_LOOKAHEAD) & (g.mode != Settings::NONE))
 }
 
 // The state after an accepted call, with the deque and the offset that it leaves.

@@ -102,10 +102,11 @@ pub fn initialized(
             again: false,
         };
     }
+    let at = length - 2;
     let e = items_scored(g, o, n, inter, importance, threshold, length - 1, d);
     Progress {
         deque: e,
-        offset: length - 2,
+        offset: at,
         again: true,
     }
 }

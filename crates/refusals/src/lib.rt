@@ -162,12 +162,12 @@ pub fn step_fault(
     if number != 0 {
         return number;
     }
+    let g = s.settings;
     let long = length_fault(s.last_number, s.last_length, length);
+    let stop = stop_fault(g, s.offset, length);
     if long != 0 {
         return long;
     }
-    let g = s.settings;
-    let stop = stop_fault(g, s.offset, length);
     if stop != 0 {
         return stop;
     }

@@ -74,6 +74,9 @@ returns-2 c =
     let t = taken (c .before) in
     (rw (entries-of e x h, z, c .before .if2 .taken), record { exact = exact-of e x h; few = omega (arith, s .pre .0 .short); at = omega arith; falls = λ l. omega arith })
 
+sub-at : tie.Need-sub-at
+sub-at c = start (c .before) .pre .0 .empty (c .before .if1 .left) .1
+
 sub-items-scored : tie.Need-sub-items-scored
 sub-items-scored c =
     let s = start (c .before) in
@@ -84,11 +87,6 @@ items-scored-requires-2 c κs =
     let s = start (c .before) in
     let h = s .pre .0 .empty (c .before .if1 .left) .1 in
     ((omega (arith, c .before .if1 .left, s .pre .0 .short), s .pre .0 .small), s .pre .1)
-
-sub-t13 : tie.Need-sub-t13
-sub-t13 c =
-    let s = start (c .before .before) in
-    s .pre .0 .empty (c .before .before .if1 .left) .1
 
 returns-3 : tie.Need-returns-3
 returns-3 c =
@@ -110,7 +108,7 @@ initialized-spec =
     add-if2
     items-scored-requires
     returns-2
+    sub-at
     sub-items-scored
     items-scored-requires-2
-    sub-t13
     returns-3)
