@@ -1,8 +1,6 @@
 // The library for C. Each function answers a number at or above 0, or the number of document 01's refusal negated. What it
 // writes to lent places is in its contract, whole.
 ghost use mathlib.Core.Path.{_≡_};
-ghost use lib.IntN.{pos, negℤ};
-ghost use Rattle.answer.specs.Answer.{wholeAnswer, realAnswer};
 ghost use Rattle.hadamard.specs.Transform.{transformFault, afterTransform};
 ghost use Rattle.importance.specs.Importance.{totalOf, importanceOf};
 ghost use Rattle.intra.specs.Costs.{intraOf, workOf, costsOf};
@@ -10,49 +8,17 @@ ghost use Rattle.intra.specs.Threshold.{thresholdOf};
 ghost use Rattle.sad.specs.Difference.{differenceOf, deltaOf};
 ghost use Rattle.satd.specs.Satd.{satdOf};
 ghost use Rattle.scale.specs.Scale.{factorAnswer};
-ghost use Rattle.brinepulley.specs.Coded.{coded, done, status, heldAfter, planeBy, Small};
-use answer::Real;
-use answer::Whole;
+ghost use Rattle.brinepulley.specs.Coded.{coded, done, status, heldAfter, planeBy};
 use plane::Plane;
 
-// A refusal's number, negated; 0 for none.
-fn negated(fault: u32) -> i64
-    ensures { λ r. ⌜ r ≡ negℤ (pos fault) ⌝ }
-{
-    0 - (fault as i64)
-}
-
-// A whole number as it is, or the refusal negated.
-fn whole(answer: Whole) -> i64
-    requires { ⌜ Small (wholeAnswer answer) ⌝ }
-    ensures { λ r. ⌜ r ≡ coded (wholeAnswer answer) ⌝ }
-{
-    match answer {
-        Whole::Number(n) => n as i64,
-        Whole::Refused(fault) => negated(fault),
-    }
-}
-
-// A float to its lent place, and 0; or the refusal negated, and the place as it was.
-fn put(answer: Real, place: &mut f64) -> i64
-    ensures { λ r. ⌜ r ≡ coded (status (realAnswer answer)) ⌝ }
-    ensures { λ r. ⌜ now (place .exit) ≡ heldAfter (realAnswer answer) (now (place .entry)) ⌝ }
-{
-    match answer {
-        Real::Number(x) => {
-            *place = x;
-            0
-        }
-        Real::Refused(fault) => negated(fault),
-    }
-}
+mod code;
 
 // The factor that Fast mode scales a frame by, 1 for none.
 #[no_mangle]
 pub extern "C" fn brine_scale_factor(width: usize, height: usize, mode: u32) -> i64
     ensures { λ r. ⌜ r ≡ coded (factorAnswer width height mode) ⌝ }
 {
-    whole(scale::detect_scale_factor(width, height, mode))
+    code::whole(scale::detect_scale_factor(width, height, mode))
 }
 
 // The sum of absolute differences of two planes.
@@ -84,7 +50,7 @@ pub extern "C" fn brine_plane_difference(
         stride: stride2,
         origin: origin2,
     };
-    whole(sad::plane_difference(depth, p, first, q, second))
+    code::whole(sad::plane_difference(depth, p, first, q, second))
 }
 
 // The importance total of two planes, before the division.
@@ -116,7 +82,7 @@ pub extern "C" fn brine_importance_total(
         stride: stride2,
         origin: origin2,
     };
-    whole(importance::importance_total(depth, p, first, q, second))
+    code::whole(importance::importance_total(depth, p, first, q, second))
 }
 
 // The plane difference over width × height: 0, and the quotient in `delta`.
@@ -150,7 +116,7 @@ pub extern "C" fn brine_delta(
         stride: stride2,
         origin: origin2,
     };
-    put(sad::delta_in_planes(depth, p, first, q, second), delta)
+    code::put(sad::delta_in_planes(depth, p, first, q, second), delta)
 }
 
 // The importance of two planes: 0, and the quotient in `importance`, a NaN where no block is whole.
@@ -184,7 +150,7 @@ pub extern "C" fn brine_importance(
         stride: stride2,
         origin: origin2,
     };
-    put(
+    code::put(
         importance::importance(depth, p, first, q, second),
         importance,
     )
@@ -222,7 +188,7 @@ pub extern "C" fn brine_intra_costs(
         stride: stride2,
         origin: origin2,
     };
-    whole(intra::estimate_intra_costs(depth, p, samples, w, work, costs))
+    code::whole(intra::estimate_intra_costs(depth, p, samples, w, work, costs))
 }
 
 // The threshold of the first `count` costs: 0, and the threshold in its place.
@@ -231,7 +197,7 @@ pub extern "C" fn brine_threshold(costs: &[u32], count: usize, threshold: &mut f
     ensures { λ r. ⌜ r ≡ coded (status (thresholdOf (now (costs .entry)) count)) ⌝ }
     ensures { λ r. ⌜ now (threshold .exit) ≡ heldAfter (thresholdOf (now (costs .entry)) count) (now (threshold .entry)) ⌝ }
 {
-    put(intra::standard::threshold(costs, count), threshold)
+    code::put(intra::standard::threshold(costs, count), threshold)
 }
 
 // The transform of four rows of four entries, in their place: 0.
@@ -240,7 +206,7 @@ pub extern "C" fn brine_hadamard4x4(list: &mut [i32]) -> i64
     ensures { λ r. ⌜ r ≡ coded (done (transformFault 4 (now (list .entry)))) ⌝ }
     ensures { λ r. ⌜ now (list .exit) ≡ afterTransform 4 (now (list .entry)) ⌝ }
 {
-    negated(hadamard::hadamard4x4(list))
+    code::negated(hadamard::hadamard4x4(list))
 }
 
 // The transform of eight rows of eight entries, in their place: 0.
@@ -249,7 +215,7 @@ pub extern "C" fn brine_hadamard8x8(list: &mut [i32]) -> i64
     ensures { λ r. ⌜ r ≡ coded (done (transformFault 8 (now (list .entry)))) ⌝ }
     ensures { λ r. ⌜ now (list .exit) ≡ afterTransform 8 (now (list .entry)) ⌝ }
 {
-    negated(hadamard::hadamard8x8(list))
+    code::negated(hadamard::hadamard8x8(list))
 }
 
 // The SATD of two blocks of 64 samples.
@@ -257,5 +223,5 @@ pub extern "C" fn brine_hadamard8x8(list: &mut [i32]) -> i64
 pub extern "C" fn brine_satd8x8(first: &[u8], second: &[u8]) -> i64
     ensures { λ r. ⌜ r ≡ coded (satdOf (now (first .entry)) (now (second .entry))) ⌝ }
 {
-    whole(satd::satd8x8(first, second))
+    code::whole(satd::satd8x8(first, second))
 }

@@ -1,8 +1,8 @@
--- `brinepulley::negated` meets its contract: a refusal's number has 32 bits, so an i64 holds it negated. Assumes nothing.
+-- `brinepulley::code::negated` meets its contract: a refusal's number has 32 bits, so an i64 holds it negated. Assumes nothing.
 use borrow.Author.Needs.{needs}
 use Rattle.brinepulley.proofs.Numbers.{neg-fits, neg-back}
-use Rattle.brinepulley.proofs.negated.Statement.{statement}
-use Rattle.brinepulley.proofs.negated.Tie as tie
+use Rattle.brinepulley.proofs.code.negated.Statement.{statement}
+use Rattle.brinepulley.proofs.code.negated.Tie as tie
 
 cast-result : tie.Need-cast-result
 cast-result c = search needs

@@ -1,11 +1,11 @@
--- `brinepulley::whole` meets its contract: a small number is itself as an i64, and a refusal is negated. Assumes nothing.
+-- `brinepulley::code::whole` meets its contract: a small number is itself as an i64, and a refusal is negated. Assumes nothing.
 use mathlib.Core.Path.{ap, _∙_}
 use borrow.Author.Needs.{needs, sfits-of}
 use mir.Facts.{toZ-ofZ}
 use Rattle.answer.specs.Answer.{wholeAnswer}
 use Rattle.brinepulley.proofs.Numbers.{given-small, given-coded}
-use Rattle.brinepulley.proofs.whole.Statement.{statement}
-use Rattle.brinepulley.proofs.whole.Tie as tie
+use Rattle.brinepulley.proofs.code.whole.Statement.{statement}
+use Rattle.brinepulley.proofs.code.whole.Tie as tie
 
 enum-known-answer : tie.Need-enum-known-answer
 enum-known-answer c = search needs

@@ -1,9 +1,9 @@
--- `brinepulley::put` meets its contract: a float goes to its place, and a refusal leaves the place. Assumes nothing.
+-- `brinepulley::code::put` meets its contract: a float goes to its place, and a refusal leaves the place. Assumes nothing.
 use mathlib.Core.Path.{refl, _∙_}
 use borrow.Author.Needs.{needs, sfits-of}
 use mir.Facts.{toZ-ofZ}
-use Rattle.brinepulley.proofs.put.Statement.{statement}
-use Rattle.brinepulley.proofs.put.Tie as tie
+use Rattle.brinepulley.proofs.code.put.Statement.{statement}
+use Rattle.brinepulley.proofs.code.put.Tie as tie
 
 enum-known-answer : tie.Need-enum-known-answer
 enum-known-answer c = search needs
