@@ -1,0 +1,7 @@
+pub mod Long
+pub mod Starts
+pub mod Calls
+pub mod Views
+pub mod Costs
+pub mod Reach
+pub mod Unique

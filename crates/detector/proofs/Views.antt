@@ -1,0 +1,69 @@
+-- The step is a function of the view, and the first and the release number are in the view for the reader alone.
+-- Assumes nothing.
+use mathlib.Core.Path.{_≡_, refl, sym, ap, _∙_}
+use mathlib.Core.Bool.{Bool, true, false, cond}
+use Prim.Native.Nat.{ℕ, _≤_, _<_}
+use native.Mathlib.Omega.{arith}
+use lib.Dec.{eqb, leb}
+use lib.ListN.{length, getD}
+use lib.Seq.{ext-getD, getD-take, length-take-le}
+use Rattle.settings.specs.Settings.{lookaheadOffset, isNone}
+use Rattle.score.specs.declared.ScoreDeque.{ScoreDeque}
+use Rattle.score.specs.Deque.{noScore, content}
+use Rattle.refusals.specs.State.{View, Call, view}
+use Rattle.refusals.specs.Refusals.{stateFault, stepFault}
+use Rattle.refusals.specs.declared.State.{State}
+use Rattle.detector.specs.declared.Stepped.{Stepped}
+use Rattle.detector.specs.Step.{Outcome, outcome, acceptedOf, stepOf}
+
+-- ---- the step respects the view
+
+-- deques that agree below the count hold the same
+pub same-content : (d e : ScoreDeque) → d .count ≡ e .count → d .count ≤ length (d .entries) → e .count ≤ length (e .entries)
+    → ((i : ℕ) → i < d .count → getD (d .entries) i noScore ≡ getD (e .entries) i noScore) → content d ≡ content e
+same-content d e n h k f =
+    let long : length (content d) ≡ d .count = length-take-le (d .count) (d .entries) h in
+    let other : length (content e) ≡ e .count = length-take-le (e .count) (e .entries) k in
+    ext-getD noScore (content d) (content e) (omega arith)
+    (λ i l. getD-take (d .count) (d .entries) i noScore (omega arith) ∙ f i (omega arith) ∙ sym (getD-take (e .count) (e .entries) i noScore (omega arith)))
+
+-- states with one view give one answer and one view
+pub step-respects-view : (s t : State) (c : Call) (r q : Stepped) → outcome r ≡ stepOf (view s) c → outcome q ≡ stepOf (view t) c
+    → view s ≡ view t → outcome r ≡ outcome q
+step-respects-view s t c r q p u e = p ∙ ap (λ (v : View). stepOf v c) e ∙ sym u
+
+-- ---- the first and the release number bear on no decision, score or refusal
+
+-- a view with other such numbers
+abbrev pub renumbered : View → ℕ → ℕ → View
+renumbered s a b = record {
+  settings = s .settings;
+  entries = s .entries;
+  offset = s .offset;
+  lastNumber = s .lastNumber;
+  lastLength = s .lastLength;
+  firstNumber = a;
+  release = b;
+}
+
+pub fault-blind : (s : View) (c : Call) (a b : ℕ) → stepFault (renumbered s a b) c ≡ stepFault s c
+unfolding stepFault stateFault
+fault-blind s c a b = refl
+
+-- the same answer, and the same state but for the two numbers
+abbrev pub Alike : Outcome → Outcome → Type 0
+Alike o u = (o .answer ≡ u .answer) × (renumbered (o .state) 0 0 ≡ renumbered (u .state) 0 0)
+
+either : (t : Bool) (o o′ u u′ : Outcome) → Alike o u → Alike o′ u′ → Alike (cond t o o′) (cond t u u′)
+either true o o′ u u′ p q = p
+either false o o′ u u′ p q = q
+
+accepted-blind : (s : View) (c : Call) (a b : ℕ) → Alike (acceptedOf (renumbered s a b) c) (acceptedOf s c)
+unfolding acceptedOf
+accepted-blind s c a b =
+    either (leb (c .setLength) (lookaheadOffset (s .settings))) _ _ _ _ (refl, refl)
+    (either (isNone (s .settings)) _ _ _ _ (refl, refl) (refl, refl))
+
+pub step-blind : (s : View) (c : Call) (a b : ℕ) → Alike (stepOf (renumbered s a b) c) (stepOf s c)
+unfolding stepOf stepFault stateFault
+step-blind s c a b = either (eqb (stepFault s c) 0) _ _ _ _ (accepted-blind s c a b) (refl, refl)

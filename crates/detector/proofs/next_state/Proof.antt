@@ -1,0 +1,40 @@
+-- `next_state` meets its contract: the first call sets both numbers, and a call that moves the release number does so after.
+-- Assumes nothing.
+use mathlib.Core.Path.{_≡_, sym, _∙_}
+use mathlib.Core.Bool.{cond}
+use mathlib.Core.Logic.{⊎-elim}
+use borrow.Author.Tests.{ne-eqb}
+use lib.Dec.{eqb}
+use borrow.Author.Needs.{needs}
+use Rattle.detector.proofs.next_state.Statement.{statement}
+use Rattle.detector.proofs.next_state.Tie as tie
+
+joined : (c : tie.Joined1)
+    → (c .if1 .first ≡ cond (eqb (c .before .before .before .args .s .«last_number») 0) (c .before .before .before .args .n) (c .before .before .before .args .s .«first_number»))
+    × (c .if1 .release ≡ cond (eqb (c .before .before .before .args .s .«last_number») 0) (c .before .before .before .args .n) (c .before .before .before .args .s .«release_number»))
+joined c = ⊎-elim (λ w. rw (w .0 .taken) (w .1, w .2)) (λ w. rw (ne-eqb _ _ (w .0 .left)) (w .1, w .2)) (c .if1 .came)
+
+moves-release-requires : tie.Need-moves-release-requires
+moves-release-requires c κs = search needs
+
+reach-back-requires : tie.Need-reach-back-requires
+reach-back-requires c κs = search needs
+
+larger-requires : tie.Need-larger-requires
+larger-requires c κs = search needs
+
+returns : tie.Need-returns
+returns c =
+    let t = c .before .before in
+    let e = joined (t .before .before) in
+    rw (c .larger .ensures, c .before .reach-back .ensures, e .0, sym (t .before .moves-release .ensures) ∙ t .if2 .taken)
+
+returns-2 : tie.Need-returns-2
+returns-2 c =
+    let e = joined (c .before .before) in
+    rw (e .0, e .1, sym (c .before .moves-release .ensures) ∙ c .if2 .left)
+
+pub next-state-spec : {M : Type 1} → statement M
+next-state-spec =
+    tie.close
+    (tie.spec moves-release-requires reach-back-requires larger-requires returns returns-2)

@@ -1,0 +1,5 @@
+pub mod Rules
+pub mod Step
+pub mod Fresh
+pub mod Runs
+pub mod Needs

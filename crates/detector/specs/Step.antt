@@ -1,0 +1,79 @@
+-- Document 01, "The step", whole: "The step answers either a refusal or a decision with its score, if there is one."
+use mathlib.Core.Bool.{Bool, false, cond}
+use mathlib.Core.Option.{Option, none, some}
+use Prim.Native.Nat.{ℕ, _-_}
+use lib.Dec.{eqb, leb}
+use lib.ListN.{getD}
+use Rattle.answer.specs.Answer.{Answer, gives, refused}
+use Rattle.settings.specs.Settings.{lookaheadOffset, isNone, isFast}
+use Rattle.score.specs.declared.ScenecutResult.{ScenecutResult}
+use Rattle.score.specs.declared.Measure.{Measure}
+use Rattle.score.specs.Deque.{noScore}
+use Rattle.refusals.specs.State.{View, Call, view}
+use Rattle.refusals.specs.Refusals.{stepFault}
+use Rattle.detector.specs.declared.Stepped.{Stepped}
+use Rattle.detector.specs.declared.StepAnswer.{StepAnswer}
+use Rattle.detector.specs.declared.StepAnswer.the-variants.{Refused, Decided}
+use Rattle.detector.specs.declared.Decision.{Decision}
+use Rattle.detector.specs.declared.Decision.the-variants.{Bare, Scored}
+use Rattle.detector.specs.Rules.{measureOf, Turn, rule4, rule5, rule6, rule7, noneCut, nextOf}
+
+-- ---- what the step answers, and the state beside it
+
+pub record Verdict : Type 0 where
+  pub cut : Bool
+  pub score : Option ScenecutResult
+
+pub record Outcome : Type 0 where
+  pub answer : Answer Verdict
+  pub state : View
+
+-- the number and the values of each case of the enums
+abbrev pub verdict : Decision → Verdict
+verdict (Bare cut) = record { cut = cut; score = none }
+verdict (Scored cut score) = record { cut = cut; score = some score }
+
+abbrev pub stepAnswer : StepAnswer → Answer Verdict
+stepAnswer (Refused f) = refused f
+stepAnswer (Decided d) = gives (verdict d)
+
+abbrev pub outcome : Stepped → Outcome
+outcome r = record { answer = stepAnswer (r .answer); state = view (r .state) }
+
+-- ---- rules 2 to 7
+
+-- what was measured of item k of a call
+abbrev pub itemOf : View → Call → ℕ → Measure
+itemOf s c = measureOf (isFast (s .settings)) (c .inter) (c .importance) (c .threshold)
+
+-- rules 4 and 5
+abbrev pub progressOf : View → Call → Turn
+progressOf s c =
+    rule5 (s .settings) (c .setLength) (c .number) (itemOf s c)
+    (rule4 (s .settings) (c .setLength) (c .number) (itemOf s c) (s .offset) (s .entries))
+
+-- a decision without a score: "o and the deque unchanged"
+abbrev pub bareOf : View → Call → Bool → Outcome
+bareOf s c cut = record {
+  answer = gives (record { cut = cut; score = none });
+  state = nextOf s (c .setLength) (c .number) (s .entries) (s .offset);
+}
+
+-- a decision with the score of entry o, and the state after rule 7
+abbrev pub scoredOf : View → Call → Turn → Outcome
+scoredOf s c t = record {
+  answer = gives (record { cut = rule6 (s .settings) (c .number - c .keyframe) t; score = some (getD (t .entries) (t .offset) noScore) });
+  state = nextOf s (c .setLength) (c .number) (rule7 (s .settings) (t .entries)) (t .offset);
+}
+
+-- 2. "L ≤ A: no cut, no score, o and the deque unchanged."; then 3, for None mode; then 4 to 7
+unfoldable pub acceptedOf : View → Call → Outcome
+acceptedOf s c =
+    cond (leb (c .setLength) (lookaheadOffset (s .settings))) (bareOf s c false)
+    (cond (isNone (s .settings)) (bareOf s c (noneCut (s .settings) (c .number - c .keyframe)))
+    (scoredOf s c (progressOf s c)))
+
+-- "A refusal returns its number only; state and lent memory are as before."
+unfoldable pub stepOf : View → Call → Outcome
+stepOf s c =
+    cond (eqb (stepFault s c) 0) (acceptedOf s c) (record { answer = refused (stepFault s c); state = s })

@@ -1,0 +1,184 @@
+// The detector: `SceneChangeDetector` of analyze.rs, with its `analyze_next_frame` as a step that takes a state and gives the next.
+ghost use mathlib.Core.Path.{_≡_};
+ghost use Prim.Native.Nat.{_-_, max};
+ghost use Rattle.score.specs.Deque.{content};
+ghost use Rattle.refusals.specs.State.{view, call};
+ghost use Rattle.refusals.specs.Refusals.{stepFault};
+ghost use Rattle.detector.specs.Rules.{releaseReach, releases, nextOf};
+ghost use Rattle.detector.specs.Step.{outcome, acceptedOf, stepOf};
+ghost use Rattle.detector.specs.Fresh.{freshView, opened, openedOf};
+use refusals::State;
+use score::ScenecutResult;
+use score::ScoreDeque;
+use settings::Settings;
+
+mod rules;
+pub mod runs;
+
+// Whether a pair is a cut, and its score if there is one.
+pub enum Decision {
+    Bare(bool),
+    Scored(bool, ScenecutResult),
+}
+
+// The set length from which a call moves the release number, and how far behind its number that lies.
+const RELEASE_LENGTH: usize = 7;
+
+const RELEASE_REACH: u64 = 9;
+
+// What the step answers: the number of a refusal, or a decision.
+pub enum StepAnswer {
+    Refused(u32),
+    Decided(Decision),
+}
+
+// The answer, with the next state beside it.
+pub struct Stepped {
+    pub answer: StepAnswer,
+    pub state: State,
+}
+
+// A fresh detector. `fault` is the number of its refusal, or 0; where it is not 0, every step of the state is refused.
+pub struct Opened {
+    pub fault: u32,
+    pub state: State,
+}
+
+// The state before any call.
+fn fresh_state(g: Settings) -> State
+    ensures { λ r. ⌜ view r ≡ freshView g ⌝ }
+{
+    let a = g.lookahead_offset();
+    let empty = ScoreDeque::empty();
+    State {
+        settings: g,
+        deque: empty,
+        offset: a,
+        last_number: 0,
+        last_length: 0,
+        first_number: 0,
+        release_number: 0,
+    }
+}
+
+pub fn fresh(g: Settings) -> Opened
+    ensures { λ r. ⌜ opened r ≡ openedOf g ⌝ }
+{
+    let fault = g.fault();
+    let state = fresh_state(g);
+    Opened { fault, state }
+}
+
+fn larger(a: u64, b: u64) -> u64
+    ensures { λ r. ⌜ r ≡ max a b ⌝ }
+{
+    if a <= b { b } else { a }
+}
+
+// The number of the call that lies as far back as any that the deque still needs; 0 where there is none.
+fn reach_back(n: u64) -> u64
+    ensures { λ r. ⌜ r ≡ n - releaseReach ⌝ }
+{
+    if n <= RELEASE_REACH {
+        return 0;
+    }
+    n - RELEASE_REACH
+}
+
+// Whether a call moves the release number.
+fn moves_release(g: Settings, length: usize) -> bool
+    ensures { λ r. ⌜ r ≡ releases g length ⌝ }
+{
+    let a = g.lookahead_offset();
+    (RELEASE_LENGTH <= length) & ((a == Settings::NORMAL_LOOKAHEAD) & (g.mode != Settings::NONE))
+}
+
+// The state after an accepted call, with the deque and the offset that it leaves.
+fn next_state(s: State, d: ScoreDeque, o: usize, n: u64, length: usize) -> State
+    ensures { λ r. ⌜ view r ≡ nextOf (view s) length n (content d) o ⌝ }
+{
+    let g = s.settings;
+    let mut first = s.first_number;
+    let mut release = s.release_number;
+    if s.last_number == 0 {
+        first = n;
+        release = n;
+    }
+    if moves_release(g, length) {
+        let back = reach_back(n);
+        release = larger(first, back);
+    }
+    State {
+        settings: g,
+        deque: d,
+        offset: o,
+        last_number: n,
+        last_length: length,
+        first_number: first,
+        release_number: release,
+    }
+}
+
+// Rules 2 to 7, for a call that is not refused.
+fn accepted(
+    s: State,
+    length: usize,
+    n: u64,
+    p: u64,
+    inter: &[f64],
+    importance: &[f64],
+    threshold: &[f64],
+) -> Stepped
+    requires { ⌜ stepFault (view s) (call length n p (now inter) (now importance) (now threshold)) ≡ 0 ⌝ }
+    ensures { λ r. ⌜ outcome r ≡ acceptedOf (view s) (call length n p (now (inter .entry)) (now (importance .entry)) (now (threshold .entry))) ⌝ }
+{
+    let g = s.settings;
+    let d = s.deque;
+    let o = s.offset;
+    let a = g.lookahead_offset();
+    if length <= a {
+        let state = next_state(s, d, o, n, length);
+        let answer = StepAnswer::Decided(Decision::Bare(false));
+        return Stepped { answer, state };
+    }
+    let distance = n - p;
+    if g.mode == Settings::NONE {
+        let cut = rules::none_cut(g, distance);
+        let state = next_state(s, d, o, n, length);
+        let answer = StepAnswer::Decided(Decision::Bare(cut));
+        return Stepped { answer, state };
+    }
+    let begun = rules::initialized(g, length, n, inter, importance, threshold, o, d);
+    let q = rules::advanced(g, length, n, inter, importance, threshold, begun);
+    let e = q.deque;
+    let at = q.offset;
+    let cut = rules::decided(g, distance, e, at);
+    let score = e.entry(at);
+    let kept = e.trimmed(Settings::NORMAL_LOOKAHEAD + a);
+    let state = next_state(s, kept, at, n, length);
+    let answer = StepAnswer::Decided(Decision::Scored(cut, score));
+    Stepped { answer, state }
+}
+
+// The step: a refusal that leaves the state, or a decision with the next state.
+pub fn step(
+    s: State,
+    length: usize,
+    n: u64,
+    p: u64,
+    inter: &[f64],
+    importance: &[f64],
+    threshold: &[f64],
+) -> Stepped
+    ensures { λ r. ⌜ outcome r ≡ stepOf (view s) (call length n p (now (inter .entry)) (now (importance .entry)) (now (threshold .entry))) ⌝ }
+    ensures { λ r. ⌜ ((stepFault (view s) (call length n p (now (inter .entry)) (now (importance .entry)) (now (threshold .entry))) ≡ 0 → ⊥) → r .state ≡ s) ⌝ }
+{
+    let fault = refusals::step_fault(s, length, n, p, inter, importance, threshold);
+    if fault != 0 {
+        return Stepped {
+            answer: StepAnswer::Refused(fault),
+            state: s,
+        };
+    }
+    accepted(s, length, n, p, inter, importance, threshold)
+}

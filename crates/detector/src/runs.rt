@@ -1,0 +1,69 @@
+// Steps one after the other. A caller takes the decision apart, and hands a refusal on.
+ghost use mathlib.Core.Path.{_≡_};
+ghost use Prim.Native.Nat.{min};
+ghost use lib.ListN.{take, drop};
+ghost use Rattle.refusals.specs.State.{call};
+ghost use Rattle.detector.specs.Step.{outcome};
+ghost use Rattle.detector.specs.Runs.{thenStep, callsOf, runOf};
+use super::StepAnswer;
+use super::Stepped;
+
+// A step from where the one before ended; the refusal of that one is handed on, with its state.
+pub fn then_step(
+    before: Stepped,
+    length: usize,
+    n: u64,
+    p: u64,
+    inter: &[f64],
+    importance: &[f64],
+    threshold: &[f64],
+) -> Stepped
+    ensures { λ r. ⌜ outcome r ≡ thenStep (outcome before) (call length n p (now (inter .entry)) (now (importance .entry)) (now (threshold .entry))) ⌝ }
+{
+    let answer = before.answer;
+    let state = before.state;
+    let StepAnswer::Decided(_decision) = answer else {
+        return Stepped { answer, state };
+    };
+    super::step(state, length, n, p, inter, importance, threshold)
+}
+
+fn lesser(a: usize, b: usize) -> usize
+    ensures { λ r. ⌜ r ≡ min a b ⌝ }
+{
+    if a <= b { a } else { b }
+}
+
+// At most `items` numbers of a list, from a place on.
+fn window(list: &[f64], from: usize, items: usize) -> &[f64]
+    ensures { λ r. ⌜ now r ≡ take items (drop from (now (list .entry))) ⌝ }
+{
+    let start = lesser(from, list.len());
+    let end = start + lesser(items, list.len() - start);
+    &list[start..end]
+}
+
+// A run of calls over a film. Call j has the number, the length and the previous keyframe at place j, and item k of its lists stands
+// at place j + k of the film's. The answer is that of the last call, or the first refusal.
+pub fn run(
+    before: Stepped,
+    numbers: &[u64],
+    lengths: &[usize],
+    keyframes: &[u64],
+    inter: &[f64],
+    importance: &[f64],
+    threshold: &[f64],
+) -> Stepped
+    ensures { λ r. ⌜ outcome r ≡ runOf (outcome before) (callsOf (now (numbers .entry)) (now (lengths .entry)) (now (keyframes .entry)) (now (inter .entry)) (now (importance .entry)) (now (threshold .entry))) ⌝ }
+{
+    let calls = lesser(numbers.len(), lesser(lengths.len(), keyframes.len()));
+    let mut last = before;
+    for j in 0..calls {
+        let items = refusals::items_of(lengths[j]);
+        let ds = window(inter, j, items);
+        let is = window(importance, j, items);
+        let ts = window(threshold, j, items);
+        last = then_step(last, lengths[j], numbers[j], keyframes[j], ds, is, ts);
+    }
+    last
+}

@@ -1,0 +1,5 @@
+pub mod Search
+pub mod Deque
+pub mod Scores
+pub mod Cut
+pub mod Costs
