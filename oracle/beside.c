@@ -71,6 +71,12 @@ const double *reals(size_t *count)
 
 int same(double a, double b) { return (a != a && b != b) || memcmp(&a, &b, sizeof a) == 0; }
 
+/* How many comparisons of each kind failed, by the words that name the kind. */
+static struct {
+    const char *what;
+    uint64_t count;
+} failures[16];
+
 void verdict(int ok, const char *what, int64_t due, int64_t got)
 {
     refusals += due < 0;
@@ -78,6 +84,10 @@ void verdict(int ok, const char *what, int64_t due, int64_t got)
         passed++;
         return;
     }
+    size_t i = 0;
+    while (failures[i].what != NULL && strcmp(failures[i].what, what) != 0) i++;
+    failures[i].what = what;
+    failures[i].count++;
     if (failed++ < 10)
         printf("record %" PRIu64 ": %s: due %" PRId64 ", got %" PRId64 "%s\n", record, what, due, got,
                due == got ? ", but what was written differs" : "");
@@ -228,6 +238,7 @@ int main(void)
            ", importance %" PRIu64 ", intra costs %" PRIu64 ", threshold %" PRIu64 ", transforms %" PRIu64 ", SATD %" PRIu64
            "\n", measured[0], measured[1], measured[2], measured[3], measured[4], measured[5], measured[6], measured[7],
            measured_satd);
+    for (size_t i = 0; failures[i].what != NULL; i++) printf("failed: %s %" PRIu64 "\n", failures[i].what, failures[i].count);
     printf("%" PRIu64 " passed, %" PRIu64 " failed\n", passed, failed);
     return failed != 0;
 }

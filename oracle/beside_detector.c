@@ -182,6 +182,6 @@ void whole_film(void)
     ok = ok && next_cut == cut_count && next_score == score_count;
     films++;
     film_frames += count;
-    verdict(ok, "whole film, at frame", (int64_t)count, (int64_t)n);
+    verdict(ok, "whole film", (int64_t)count, (int64_t)n);
     free(f);
 }
