@@ -35,8 +35,12 @@ fn state(r: &mut Random, s: &mut State) {
         1 => s.numbers[1] = r.of(&[0, 8193, u64::MAX, (1 << 32) + 16]),
         2 => s.numbers[2] = r.of(&[0, 7, 10, (1 << 32) + 8, u64::MAX]),
         3 => s.numbers[4] = r.of(&[3, (1 << 32) + 1, (1 << 32) + 2, 1 << 32, u64::MAX]),
-        4 => s.numbers[OFFSET] = r.of(&[count, count.wrapping_add(1), u64::MAX, count.wrapping_sub(1).wrapping_add(1 << 32)]),
-        5 => s.numbers[COUNT] = r.of(&[16, 17, 11, 15, count.wrapping_add(1 << 32), u64::MAX, 0]),
+        4 => s.numbers[OFFSET] = r.of(&[0, count, count.wrapping_add(1), u64::MAX, count.wrapping_sub(1).wrapping_add(1 << 32)]),
+        5 => {
+            // Too many entries, and nothing else that is wrong with them.
+            s.numbers[COUNT] = r.of(&[16, 16, 17, 11, 11, 15, count.wrapping_add(1 << 32), u64::MAX, 0]);
+            s.places.chunks_mut(5).for_each(|e| e[0] = 1.0);
+        }
         _ => {
             let at = r.below(count.clamp(1, 16)) as usize;
             s.places[at * 5] = bad_inter(r);
@@ -53,7 +57,8 @@ fn call(r: &mut Random, s: &State, c: &mut Call) {
         2 => c.set = r.of(&[17, u64::MAX, 1 << 32, 1 << 63, c.set.wrapping_add(1 << 32)]),
         3 => {
             // A longer set, its lists as long as they should be.
-            let longer = if s.numbers[LAST] == 0 { 17 } else { s.numbers[LENGTH].saturating_add(1).min(20) };
+            let free = s.numbers[LAST] == 0 || s.numbers[LENGTH] > 16;
+            let longer = if free { 17 } else { s.numbers[LENGTH] + 1 };
             c.set = longer;
             for list in [&mut c.inter, &mut c.importance, &mut c.threshold] {
                 list.resize(longer as usize - 1, 1.0);

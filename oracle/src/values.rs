@@ -28,8 +28,8 @@ impl Taste {
 
     /// A threshold: a NaN, or finite and not below 0.
     pub fn threshold(self, r: &mut Random) -> f64 {
-        if r.once_in(12) {
-            return r.of(&[f64::NAN, 0.0, -0.0, TINY, f64::MAX]);
+        if r.once_in(8) {
+            return r.of(&[f64::NAN, f64::NAN, 0.0, -0.0, TINY, f64::MAX]);
         }
         match self.0 {
             6 => r.of(&[10.0, 100.0, 5.0]),
