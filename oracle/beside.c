@@ -93,16 +93,23 @@ void verdict(int ok, const char *what, int64_t due, int64_t got)
                due == got ? ", but what was written differs" : "");
 }
 
-static uint64_t measured[8];
-enum { M_SCALE, M_DIFFERENCE, M_TOTAL, M_DELTA, M_IMPORTANCE, M_INTRA, M_THRESHOLD, M_TRANSFORM };
-static uint64_t measured_satd;
+enum measure { M_SCALE, M_DIFFERENCE, M_TOTAL, M_DELTA, M_IMPORTANCE, M_INTRA, M_THRESHOLD, M_4X4, M_8X8, M_SATD, MEASURES };
+static const char *const measures[MEASURES] = {"scale factor", "plane difference", "importance total", "delta", "importance",
+    "intra costs", "threshold", "transform of 4x4", "transform of 8x8", "SATD"};
+static uint64_t measured[MEASURES];
+
+/* One measure was compared. */
+static void measure(enum measure m, int ok, int64_t due, int64_t got)
+{
+    measured[m] += due >= 0;
+    verdict(ok && due == got, measures[m], due, got);
+}
 
 static void scale(void)
 {
     const uint64_t *n = words(3);
     int64_t due = answer(), got = brine_scale_factor(n[0], n[1], (uint32_t)n[2]);
-    measured[M_SCALE] += due >= 0;
-    verdict(due == got, "scale factor", due, got);
+    measure(M_SCALE, 1, due, got);
 }
 
 struct plane {
@@ -133,7 +140,6 @@ static void planes(void)
     memcpy(value, words(2), sizeof value);
     got[0] = brine_plane_difference(depth, AS_LENT(a), AS_LENT(b));
     got[1] = brine_importance_total(depth, AS_LENT(a), AS_LENT(b));
-    static const char *const names[] = {"plane difference", "importance total", "delta", "importance"};
     for (int i = 0; i < 4; i++) {
         int ok = 1;
         if (i >= 2) {
@@ -142,9 +148,8 @@ static void planes(void)
                             : brine_importance(depth, AS_LENT(a), AS_LENT(b), out);
             ok = same(*out, due[i] < 0 ? before : value[i - 2]) && guarded(OUT);
         }
-        ok = ok && due[i] == got[i] && holds(FIRST, a.samples) && holds(SECOND, b.samples);
-        measured[M_DIFFERENCE + i] += due[i] >= 0;
-        verdict(ok, names[i], due[i], got[i]);
+        ok = ok && holds(FIRST, a.samples) && holds(SECOND, b.samples);
+        measure(M_DIFFERENCE + i, ok, due[i], got[i]);
     }
 }
 
@@ -159,9 +164,7 @@ static void intra(void)
     const uint32_t *costs_after = halves(&same_len);
     uint32_t *lent = lend(COSTS, costs, costs_len * sizeof *costs, 4);
     int64_t got = brine_intra_costs(depth, AS_LENT(a), AS_LENT(work), lent, costs_len);
-    measured[M_INTRA] += due >= 0;
-    verdict(due == got && holds(FIRST, a.samples) && holds(SECOND, work_after) && holds(COSTS, costs_after), "intra costs",
-            due, got);
+    measure(M_INTRA, holds(FIRST, a.samples) && holds(SECOND, work_after) && holds(COSTS, costs_after), due, got);
 }
 
 static void threshold(void)
@@ -176,9 +179,7 @@ static void threshold(void)
     const uint32_t *lent = lend(COSTS, costs, len * sizeof *costs, 4);
     double *out = lend(OUT, &before, sizeof before, 8);
     int64_t got = brine_threshold(lent, len, count, out);
-    measured[M_THRESHOLD] += due >= 0;
-    verdict(due == got && same(*out, due < 0 ? before : value) && guarded(OUT) && holds(COSTS, costs), "threshold", due,
-            got);
+    measure(M_THRESHOLD, same(*out, due < 0 ? before : value) && guarded(OUT) && holds(COSTS, costs), due, got);
 }
 
 static void hadamard(void)
@@ -190,8 +191,7 @@ static void hadamard(void)
     const uint32_t *after = halves(&same_len);
     int32_t *lent = lend(COSTS, list, len * sizeof *list, 4);
     int64_t got = side == 4 ? brine_hadamard4x4(lent, len) : brine_hadamard8x8(lent, len);
-    measured[M_TRANSFORM] += due >= 0;
-    verdict(due == got && holds(COSTS, after), side == 4 ? "transform of 4x4" : "transform of 8x8", due, got);
+    measure(side == 4 ? M_4X4 : M_8X8, holds(COSTS, after), due, got);
 }
 
 static void satd(void)
@@ -200,8 +200,7 @@ static void satd(void)
     const void *a = bytes(&len), *b = bytes(&len2);
     int64_t due = answer();
     int64_t got = brine_satd8x8(lend(FIRST, a, len, 1), len, lend(SECOND, b, len2, 1), len2);
-    measured_satd += due >= 0;
-    verdict(due == got && holds(FIRST, a) && holds(SECOND, b), "SATD", due, got);
+    measure(M_SATD, holds(FIRST, a) && holds(SECOND, b), due, got);
 }
 
 static void faulted(int number)
@@ -234,10 +233,9 @@ int main(void)
     if (word() != record - 1) stop("the number of records is not the one announced");
     printf("compared: %" PRIu64 " detector calls with %" PRIu64 " cuts, %" PRIu64 " whole films of %" PRIu64 " frames, %" PRIu64
            " refusals\n", calls, cuts, films, film_frames, refusals);
-    printf("compared: scale %" PRIu64 ", difference %" PRIu64 ", importance total %" PRIu64 ", delta %" PRIu64
-           ", importance %" PRIu64 ", intra costs %" PRIu64 ", threshold %" PRIu64 ", transforms %" PRIu64 ", SATD %" PRIu64
-           "\n", measured[0], measured[1], measured[2], measured[3], measured[4], measured[5], measured[6], measured[7],
-           measured_satd);
+    printf("compared:");
+    for (int i = 0; i < MEASURES; i++) printf("%s %s %" PRIu64, i == 0 ? "" : ",", measures[i], measured[i]);
+    printf("\n");
     for (size_t i = 0; failures[i].what != NULL; i++) printf("failed: %s %" PRIu64 "\n", failures[i].what, failures[i].count);
     printf("%" PRIu64 " passed, %" PRIu64 " failed\n", passed, failed);
     return failed != 0;
