@@ -78,14 +78,14 @@ pub fn put_call(desk: &mut Desk, lengths: (u64, u64), c: &Call, answer: i64, aft
 /// An accepted call: the crate's answer if it can be asked, beside the reading's.
 pub fn accepted(desk: &mut Desk, film: &Film, d: Option<&mut Detector>, s: &State, c: &Call) -> (i64, State) {
     let (mut answer, mut after) = reading::step(s, c);
-    desk.tally.calls += 1;
     let ours = after.entries();
     let mut given = (answer >= 2).then(|| ours[after.offset() as usize]);
     match d {
-        None => desk.tally.read += 1,
+        None => desk.tally.read_calls += 1,
         Some(d) => match film.ask(d, c) {
             None => desk.tally.differs(&format!("the crate stops: {c:?} from {:?}", s.numbers)),
             Some(theirs) => {
+                desk.tally.calls += 1;
                 let equal = |a: &Score, b: &Score| a.iter().zip(b).all(|(x, y)| same(*x, *y));
                 let scores = match (&given, &theirs.given) {
                     (Some(a), Some(b)) => equal(a, b),

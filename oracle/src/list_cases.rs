@@ -105,8 +105,9 @@ pub fn threshold(desk: &mut Desk, r: &mut Random) {
     let costs: Vec<u32> = (0..r.below(40)).map(|_| r.below(most) as u32).collect();
     let have = costs.len() as u64;
     let count = if r.once_in(10) { have + r.of(&[1, 7, 1 << 32, 1 << 60]) } else { r.below(have + 1) };
-    desk.tally.read += 1;
-    put_threshold(desk, &costs, count, read::threshold(&costs, count));
+    let due = read::threshold(&costs, count);
+    desk.tally.read_measures += u64::from(due.is_ok());
+    put_threshold(desk, &costs, count, due);
 }
 
 pub fn scale(desk: &mut Desk, r: &mut Random) {

@@ -1,5 +1,5 @@
 //! Cases from a seed with the crate's answers, as a stream of words on the standard output.
-//!   oracle SEED COUNT       about COUNT detector calls, and COUNT / 10 accepted measures of each kind at least
+//!   oracle SEED COUNT       COUNT detector calls that the crate answers, COUNT / 10 measures of each kind at least
 mod attempt;
 mod damage;
 mod detector_cases;

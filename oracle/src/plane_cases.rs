@@ -110,7 +110,7 @@ pub fn pair_of(desk: &mut Desk, depth: u64, a: &Lent, b: &Lent) {
         let (total, importance) = crate_importance(desk, a, b);
         answers = [difference as i64, total as i64, 0, 0];
         reals = [delta, importance];
-        desk.tally.measures += 4;
+        desk.tally.measures += 3;
     } else {
         desk.tally.refusal(fault, stops(fault, a, b));
     }
@@ -147,8 +147,9 @@ fn crate_difference(desk: &mut Desk, a: &Lent, b: &Lent) -> (u64, f64) {
             desk.tally.differs("a delta");
         }
         delta = theirs;
+        desk.tally.measures += 1;
     } else {
-        desk.tally.read += 1;
+        desk.tally.read_measures += 1;
     }
     (difference, delta)
 }
@@ -206,13 +207,13 @@ fn crate_threshold(desk: &mut Desk, a: &Lent, costs: &[u32]) {
     if !read::threshold(costs, costs.len() as u64).is_ok_and(|t| same(t, theirs)) {
         desk.tally.differs("a threshold");
     }
+    desk.tally.measures += 1;
     put_threshold(desk, costs, costs.len() as u64, Ok(theirs));
 }
 
 pub fn put_threshold(desk: &mut Desk, costs: &[u32], count: u64, due: Result<f64, u32>) {
-    match due {
-        Ok(_) => desk.tally.measures += 1,
-        Err(fault) => desk.tally.refusal(fault, Ran::NotAsked),
+    if let Err(fault) = due {
+        desk.tally.refusal(fault, Ran::NotAsked);
     }
     let answer = due.map_or_else(|fault| -i64::from(fault), |_| 0);
     desk.out.halves(costs).word(count).answer(answer).real(due.unwrap_or(0.0)).end(Kind::Threshold);

@@ -7,8 +7,9 @@ pub struct Tally {
     pub cuts: u64,
     pub measures: u64,
     pub films: u64,
-    /// Answers that the reading alone gives: the crate cannot be asked, or has no such rule.
-    pub read: u64,
+    /// Calls and measures beside these that the reading alone answers: the crate cannot be asked.
+    pub read_calls: u64,
+    pub read_measures: u64,
     /// For each refusal: how many damaged calls the crate stopped on, ran through, or could not be given.
     pub refused: BTreeMap<u32, [u64; 3]>,
     pub different: u64,
@@ -34,9 +35,9 @@ impl Tally {
 
     pub fn print(&self, seed: u64) {
         eprintln!(
-            "oracle: seed {seed}: {} accepted detector calls with {} cuts, {} accepted measures, {} films; \
-             {} of these answers by the reading alone; crate and reading differ on {}",
-            self.calls, self.cuts, self.measures, self.films, self.read, self.different
+            "oracle: seed {seed}: the crate answered {} detector calls, {} measures, {} films; the reading alone {} calls, \
+             {} measures; {} cuts; crate and reading differ on {}",
+            self.calls, self.measures, self.films, self.read_calls, self.read_measures, self.cuts, self.different
         );
         for (number, [stopped, through, not]) in &self.refused {
             eprintln!("oracle: refusal {number:2}: the crate stopped {stopped}, ran {through}, was not asked {not}");
