@@ -61,6 +61,7 @@ fn fresh_state(g: Settings) -> State
     }
 }
 
+// A fresh detector of the settings, or their refusal.
 pub fn fresh(g: Settings) -> Opened
     ensures { λ r. ⌜ opened r ≡ openedOf g ⌝ }
 {
