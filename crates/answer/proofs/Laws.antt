@@ -5,9 +5,9 @@ use Prim.Native.Nat.{ℕ, suc}
 use native.Mathlib.Nat.{suc-ne-zero}
 use lib.Dec.{eqb}
 use lib.Ieee.{Float}
-use borrow.Author.Tests.{ne-eqb, eq-eqb, eqb-true, eqb-false}
+use borrow.Author.Tests.{ne-eqb, eqb-true, eqb-false}
 use Rattle.answer.specs.Refusal.{refusal, _orElse_}
-use Rattle.answer.specs.Answer.{Answer, gives, refused, answered, wholeAnswer, realAnswer}
+use Rattle.answer.specs.Answer.{Answer, gives, refused, answered, lentAfter, wholeAnswer, realAnswer}
 use Rattle.answer.specs.declared.Whole.{Whole}
 use Rattle.answer.specs.declared.Whole.the-variants as whole
 use Rattle.answer.specs.declared.Real.{Real}
@@ -45,6 +45,15 @@ answer-given fault a b e d = rw (← e, d)
 pub answer-refused : {A : Type 0} (r fault : ℕ) (a : A) → r ≡ fault → (r ≡ 0 → ⊥) → refused r ≡ answered fault a
 unfolding answered
 answer-refused r fault a e h = rw (← e, ne-eqb r 0 h)
+
+-- a lent place: written, or as it was
+pub lent-written : {A : Type 0} (fault : ℕ) (new old : A) → 0 ≡ fault → new ≡ lentAfter fault new old
+unfolding lentAfter
+lent-written fault new old e = rw (← e)
+
+pub lent-kept : {A : Type 0} (r fault : ℕ) (new old : A) → r ≡ fault → (r ≡ 0 → ⊥) → old ≡ lentAfter fault new old
+unfolding lentAfter
+lent-kept r fault new old e h = rw (← e, ne-eqb r 0 h)
 
 -- two values that agree where nothing is refused make one answer
 pub answer-same : {A : Type 0} (fault : ℕ) (a b : A) → (fault ≡ 0 → a ≡ b) → answered fault a ≡ answered fault b

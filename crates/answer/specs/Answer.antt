@@ -16,6 +16,10 @@ pub data Answer (A : Type 0) : Type 0 where
 unfoldable pub answered : {A : Type 0} → ℕ → A → Answer A
 answered fault a = cond (eqb fault 0) (gives a) (refused fault)
 
+-- "A refusal returns its number only; state and lent memory are as before": what a lent place holds at exit
+unfoldable pub lentAfter : {A : Type 0} → ℕ → A → A → A
+lentAfter fault new old = cond (eqb fault 0) new old
+
 -- the number and the value of each case of the enums
 abbrev pub wholeAnswer : Whole → Answer ℕ
 wholeAnswer (whole.Number n) = gives n

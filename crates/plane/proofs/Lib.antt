@@ -1,2 +1,3 @@
 pub mod PlaneLaws
+pub mod BlockLaws
 pub mod Unique

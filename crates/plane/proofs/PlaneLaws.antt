@@ -1,8 +1,8 @@
 -- When a plane is refused, what one that is not refused keeps to, and its rows. Assumes nothing.
-use mathlib.Core.Path.{_≡_, refl, sym, ap, _∙_}
+use mathlib.Core.Path.{_≡_, refl, sym, _∙_}
 use mathlib.Core.Bool.{Bool, true, false, not, _||_, true≢false}
 use mathlib.Core.List.{List}
-use Prim.Native.Nat.{ℕ, zero, suc, _+_, _-_, _*_, _/_, _≤_, _<_, _^_}
+use Prim.Native.Nat.{ℕ, _+_, _-_, _*_, _/_, _≤_, _<_, _^_}
 use native.Mathlib.Nat.{pos-of-ne-zero, mul-le-mul, mul-le-mul-right, div-lt-iff-lt-mul, le-div-iff-mul-le}
 use native.Mathlib.Omega.{arith}
 use lib.Dec.{ltb, leb, eqb}
@@ -143,3 +143,7 @@ pair p n q m e =
 pub measured : (depth : ℕ) (p : Plane) (n : ℕ) (q : Plane) (m : ℕ) → pairFault depth p n q m ≡ 0 → sizesFault p n q m ≡ 0
 unfolding pairFault
 measured depth p n q m e = or-none (depthFault depth) (sizesFault p n q m) e .1
+
+-- a plane's total fits, at samples of 8 bits as of 16
+pub total-fits : (n w k : ℕ) → n ≤ maxSide → w ≤ maxSide → k < 2 ^ 16 → n * (w * k) < 2 ^ 64
+total-fits n w k h i j = let j′ : k ≤ 65535 = omega arith in omega (arith, mul-le-mul h (mul-le-mul i j′))

@@ -1,12 +1,11 @@
 -- Sums of absolute differences, of a row and of a plane, over the largest sample k. Assumes nothing.
 use mathlib.Core.Path.{_≡_}
 use mathlib.Core.List.{List}
-use Prim.Native.Nat.{ℕ, _+_, _*_, _^_, _≤_, _<_}
-use native.Mathlib.Nat.{mul-le-mul}
+use Prim.Native.Nat.{ℕ, _+_, _*_, _≤_, _<_}
 use native.Mathlib.Omega.{arith}
 use lib.ListN.{length, getD}
 use Rattle.plane.specs.declared.Plane.{Plane}
-use Rattle.plane.specs.Planes.{sampleAt, rowOf, maxSide}
+use Rattle.plane.specs.Planes.{sampleAt, rowOf}
 use Rattle.plane.proofs.PlaneLaws.{Lies, row-at}
 use Rattle.sums.specs.Sums.{sumBelow, apart}
 use Rattle.sums.proofs.SumLaws.{sum-ext, sum-most}
@@ -29,7 +28,3 @@ module _ (p : Plane) (a : List ℕ) (q : Plane) (b : List ℕ) (y : ℕ)
   row-sad-is e =
       sum-ext (p .width) (gapAt (rowOf p a y) (rowOf q b y)) (λ (x : ℕ). apart (sampleAt p a y x) (sampleAt q b y x))
       (λ x x<. let x<′ : x < q .width = omega arith in rw (row-at p a y f h x x<, row-at q b y s i x x<′))
-
--- a plane's sum fits, at samples of 8 bits as of 16
-pub total-fits : (n w k : ℕ) → n ≤ maxSide → w ≤ maxSide → k < 2 ^ 16 → n * (w * k) < 2 ^ 64
-total-fits n w k h i j = let j′ : k ≤ 65535 = omega arith in omega (arith, mul-le-mul h (mul-le-mul i j′))

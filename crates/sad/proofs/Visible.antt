@@ -3,15 +3,14 @@ use mathlib.Core.Path.{_≡_, ap, _∙_}
 use mathlib.Core.List.{List}
 use Prim.Native.Nat.{ℕ, _*_, _<_}
 use native.Mathlib.Omega.{arith}
-use lib.Ieee.{Float}
 use lib.ListN.{length}
-use Rattle.answer.specs.Answer.{Answer, answered}
+use Rattle.answer.specs.Answer.{answered}
 use Rattle.answer.proofs.Laws.{answer-same}
 use Rattle.plane.specs.declared.Plane.{Plane}
 use Rattle.plane.specs.Planes.{sampleAt, pairFault, sizesFault}
 use Rattle.plane.proofs.PlaneLaws.{measured, pair}
 use Rattle.sums.specs.Quotient.{quotientOf}
-use Rattle.sums.specs.Sums.{sumBelow, apart}
+use Rattle.sums.specs.Sums.{apart}
 use Rattle.sums.proofs.SumLaws.{sum-ext}
 use Rattle.sad.specs.Difference.{rowSad, planeSad, differenceOf, deltaOf}
 

@@ -1,6 +1,6 @@
 -- Document 01, "Plane difference and scale": the scale by the smaller side; and refusal 6.
 use Prim.Native.Nat.{ℕ, _/_}
-use mathlib.Core.Bool.{Bool, _||_, cond}
+use mathlib.Core.Bool.{_||_, cond}
 use lib.Dec.{ltb, leb, eqb}
 use Rattle.answer.specs.Refusal.{refusal}
 use Rattle.answer.specs.Answer.{Answer, gives, refused, answered}

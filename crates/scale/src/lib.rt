@@ -1,7 +1,6 @@
 // The scale rule of Fast mode: `detect_scale_factor` of analyze/fast.rs, and the sides that it reduces a frame to.
 use answer::Whole;
 ghost use mathlib.Core.Path.{_≡_};
-ghost use mathlib.Core.Bool.{Bool};
 ghost use Rattle.answer.specs.Answer.{wholeAnswer};
 ghost use Rattle.scale.specs.Scale.{factorBy, scaleOf, sizeFault, factorAnswer, sidesAnswer, reducedSides};
 

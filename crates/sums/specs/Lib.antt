@@ -1,2 +1,5 @@
 pub mod Sums
 pub mod Quotient
+pub mod Table
+pub mod Any
+pub mod Written

@@ -4,11 +4,11 @@ use Prim.Native.Nat.{_+_, _*_, _≤_, _-_}
 use native.Mathlib.Omega.{arith}
 use borrow.Author.Needs.{needs}
 use lib.ListN.{length}
-use Rattle.plane.proofs.PlaneLaws.{Pair, pair, length-row}
+use Rattle.plane.proofs.PlaneLaws.{Pair, pair, length-row, total-fits}
 use Rattle.sums.specs.Sums.{sumBelow}
 use Rattle.sums.proofs.SumLaws.{sum-none, sum-more, sum-to}
 use Rattle.sad.specs.Difference.{rowSad, planeSad}
-use Rattle.sad.proofs.SadLaws.{rows-most, row-sad-is, total-fits}
+use Rattle.sad.proofs.SadLaws.{rows-most, row-sad-is}
 use Rattle.sad.proofs.sad_plane.Statement.{statement}
 use Rattle.sad.proofs.sad_plane.Tie as tie
 

@@ -1,5 +1,5 @@
 -- `scale::reduced_sides` meets its contract: the factor is never 0, and each side is divided by it. Assumes nothing.
-use mathlib.Core.Path.{_≡_, sym, ap, _∙_}
+use mathlib.Core.Path.{sym, ap, _∙_}
 use Prim.Native.Nat.{ℕ, _/_}
 use borrow.Author.Needs.{needs}
 use Rattle.answer.proofs.Laws.{answer-given, answer-refused}

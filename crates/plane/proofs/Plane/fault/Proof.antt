@@ -1,7 +1,6 @@
 -- `Plane::fault` meets its contract: the tests of refusal 1 are the definition's, and what is left is where the last row ends. Assumes nothing.
 use mathlib.Core.Path.{_≡_, sym, _∙_}
 use mathlib.Core.Bool.{false}
-use native.Mathlib.Omega.{arith}
 use borrow.Author.Needs.{needs}
 use Rattle.plane.specs.Planes.{badShape}
 use Rattle.plane.proofs.PlaneLaws.{fault-shape, fault-short, fault-none, shape}

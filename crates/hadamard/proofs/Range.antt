@@ -1,0 +1,103 @@
+-- The entries out of range: some are exactly when their count is not 0. Assumes nothing.
+use mathlib.Core.Path.{_≡_, refl, ap}
+use mathlib.Core.Bool.{Bool, true, false, cond}
+use mathlib.Core.List.{List, [], _∷_}
+use Prim.Native.Nat.{ℕ, zero, suc, _+_, _-_, _*_, _≤_, _<_}
+use native.Mathlib.Numerals.{add-one}
+use native.Mathlib.Omega.{arith}
+use borrow.Author.Tests.{lt-ltb, le-ltb, ltb-true, ltb-false, ne-eqb, eq-eqb}
+use lib.IntN.{ℤ, pos, negsuc, natAbs}
+use lib.ListN.{length, getD, drop, drop-of-length-le}
+use lib.Seq.{drop-cons}
+use lib.Signed.{ltZ}
+use Rattle.answer.specs.Answer.{lentAfter}
+use Rattle.answer.specs.Refusal.{refusal, _orElse_}
+use Rattle.hadamard.specs.Transform.{entryMost, beyondMost, someBeyond, transformFault, transformed, afterTransform}
+use Rattle.hadamard.specs.Steps.{countBeyond, Within}
+
+-- ---- the tests of one entry
+pub below-least : (z : ℤ) → ltZ z (negsuc (entryMost - 1)) ≡ true → 1 ≡ refusal 1 (beyondMost z)
+below-least (pos n) e = let q : _≡_ {A = Bool} false true = e in let w : _≡_ {A = ℕ} 0 1 = cc in absurd (omega arith)
+below-least (negsuc n) e = rw (lt-ltb entryMost (suc n) (omega (arith, ltb-true (entryMost - 1) n e)))
+
+pub above-most : (z : ℤ) → ltZ (pos entryMost) z ≡ true → 1 ≡ refusal 1 (beyondMost z)
+above-most (pos n) e = rw e
+above-most (negsuc n) e = let q : _≡_ {A = Bool} false true = e in let w : _≡_ {A = ℕ} 0 1 = cc in absurd (omega arith)
+
+pub between : (z : ℤ) → ltZ z (negsuc (entryMost - 1)) ≡ false → ltZ (pos entryMost) z ≡ false → 0 ≡ refusal 1 (beyondMost z)
+between (pos n) d e = rw e
+between (negsuc n) d e = rw (le-ltb entryMost (suc n) (omega (arith, ltb-false (entryMost - 1) n d)))
+
+-- ---- the count
+pub none-passed : (l : List ℤ) → countBeyond l ≡ 0 + countBeyond (drop 0 l)
+none-passed l = omega arith
+
+pub one-passed : (l : List ℤ) (n i : ℕ) → i < length l → countBeyond l ≡ n + countBeyond (drop i l)
+    → countBeyond l ≡ (n + refusal 1 (beyondMost (getD l i (pos 0)))) + countBeyond (drop (i + 1) l)
+unfolding countBeyond
+one-passed l n i h e =
+    let here = ap countBeyond (drop-cons l i (pos 0) h) in
+    rw add-one (omega (arith, e, here))
+
+pub all-passed : (l : List ℤ) (n i : ℕ) → length l ≤ i → countBeyond l ≡ n + countBeyond (drop i l) → n ≡ countBeyond l
+unfolding countBeyond
+all-passed l n i h e = let rest = ap countBeyond (drop-of-length-le l h) in omega (arith, e, rest)
+
+pub one-at-most : (t : Bool) → refusal 1 t ≤ 1
+one-at-most true = omega arith
+one-at-most false = omega arith
+
+counted : (t : Bool) (n : ℕ) (b : Bool) → ((n ≡ 0 → ⊥) → b ≡ true) → (refusal 1 t + n ≡ 0 → ⊥) → cond t true b ≡ true
+counted true n b f h = refl
+counted false n b f h = f (λ e. h (omega arith))
+
+uncounted : (t : Bool) (n : ℕ) (b : Bool) → (n ≡ 0 → b ≡ false) → refusal 1 t + n ≡ 0 → cond t true b ≡ false
+uncounted true n b f e = absurd (omega arith)
+uncounted false n b f e = f (omega arith)
+
+pub some-counted : (l : List ℤ) → (countBeyond l ≡ 0 → ⊥) → someBeyond l ≡ true
+unfolding someBeyond countBeyond
+some-counted [] h = absurd (h refl)
+some-counted (z ∷ l) h = counted (beyondMost z) (countBeyond l) (someBeyond l) (some-counted l) h
+
+pub none-counted : (l : List ℤ) → countBeyond l ≡ 0 → someBeyond l ≡ false
+unfolding someBeyond countBeyond
+none-counted [] e = refl
+none-counted (z ∷ l) e = uncounted (beyondMost z) (countBeyond l) (someBeyond l) (none-counted l) e
+
+-- where none is out of range, every one is within it
+unpicked : (t b : Bool) → cond t true b ≡ false → (t ≡ false) × (b ≡ false)
+unpicked true b e = let w : _≡_ {A = ℕ} 0 1 = cc in absurd (omega arith)
+unpicked false b e = (refl, e)
+
+pub within : (l : List ℤ) → someBeyond l ≡ false → Within entryMost l
+unfolding someBeyond
+within l e = record { most = each l e }
+  where
+    each : (l : List ℤ) → someBeyond l ≡ false → (i : ℕ) → natAbs (getD l i (pos 0)) ≤ entryMost
+    each [] e i = omega arith
+    each (z ∷ l) e zero = ltb-false entryMost (natAbs z) (unpicked (beyondMost z) (someBeyond l) e .0)
+    each (z ∷ l) e (suc i) = each l (unpicked (beyondMost z) (someBeyond l) e .1) i
+
+pub within-more : (m n : ℕ) (l : List ℤ) → m ≤ n → Within m l → Within n l
+within-more m n l h w = record { most = λ i. omega (arith, w .most i) }
+
+-- and back
+pub none-beyond : (l : List ℤ) → Within entryMost l → someBeyond l ≡ false
+unfolding someBeyond
+none-beyond [] w = refl
+none-beyond (z ∷ l) w = rw (le-ltb entryMost (natAbs z) (w .most 0)) (none-beyond l (record { most = λ i. w .most (suc i) }))
+
+-- ---- the refusals, and what is left
+pub wrong-length : (n : ℕ) (l : List ℤ) → (length l ≡ n * n → ⊥) → (2 ≡ transformFault n l) × (l ≡ afterTransform n l)
+unfolding _orElse_ lentAfter
+wrong-length n l h = rw (ne-eqb (length l) (n * n) h) (refl, refl)
+
+module _ (n : ℕ) (l : List ℤ) (size : length l ≡ n * n) where
+  pub too-large : someBeyond l ≡ true → (10 ≡ transformFault n l) × (l ≡ afterTransform n l)
+  unfolding _orElse_ lentAfter
+  too-large e = rw (eq-eqb (length l) (n * n) size, e) (refl, refl)
+
+  pub accepted : someBeyond l ≡ false → (0 ≡ transformFault n l) × (transformed n l ≡ afterTransform n l)
+  unfolding _orElse_ lentAfter
+  accepted e = rw (eq-eqb (length l) (n * n) size, e) (refl, refl)

@@ -1,0 +1,2 @@
+pub mod Transform
+pub mod Steps

@@ -1,0 +1,86 @@
+-- What the private functions leave on the way. Contracts of private functions alone cite this file; no public contract does.
+use mathlib.Core.Path.{_≡_}
+use mathlib.Core.Bool.{true, cond}
+use mathlib.Core.List.{List, [], _∷_}
+use Prim.Native.Nat.{ℕ, zero, suc, _+_, _*_, _≤_, _<_}
+use lib.Dec.{eqb}
+use lib.IntN.{ℤ, pos, _+ℤ_, _-ℤ_, natAbs}
+use lib.ListN.{length, getD, set}
+use Rattle.answer.specs.Refusal.{refusal}
+use Rattle.hadamard.specs.Transform.{output, entryMost, beyondMost}
+use Rattle.hadamard.specs.declared.Two.{Two}
+use Rattle.hadamard.specs.declared.Four.{Four}
+use Rattle.hadamard.specs.declared.Eight.{Eight}
+
+-- the largest numbers on the way: of a line before its transform (a row, after the columns), of its halves' outputs, and of its own
+abbrev pub lineMost : ℕ
+lineMost = 8 * entryMost
+
+abbrev pub halfMost : ℕ
+halfMost = 4 * lineMost
+
+abbrev pub outMost : ℕ
+outMost = 2 * halfMost
+
+-- how many entries are out of range
+unfoldable pub countBeyond : List ℤ → ℕ
+countBeyond [] = 0
+countBeyond (z ∷ l) = refusal 1 (beyondMost z) + countBeyond l
+
+-- four numbers by their places, there and back
+abbrev pub fourOf : (ℕ → ℤ) → Four
+fourOf g = record { x0 = g 0; x1 = g 1; x2 = g 2; x3 = g 3 }
+
+abbrev pub placed : Four → ℕ → ℤ
+placed x j = getD (x .x0 ∷ x .x1 ∷ x .x2 ∷ x .x3 ∷ []) j (pos 0)
+
+-- a sum and a difference, of numbers and of fours
+abbrev pub twoOf : ℤ → ℤ → Two
+twoOf a b = record { sum = a +ℤ b; difference = a -ℤ b }
+
+abbrev pub mergeOf : Four → Four → Eight
+mergeOf a b = record { low = fourOf (λ (k : ℕ). placed a k +ℤ placed b k); high = fourOf (λ (k : ℕ). placed a k -ℤ placed b k) }
+
+-- each of four numbers is at most m in size
+pub record Small (m : ℕ) (x : Four) : Type 0 where
+  pub m0 : natAbs (x .x0) ≤ m
+  pub m1 : natAbs (x .x1) ≤ m
+  pub m2 : natAbs (x .x2) ≤ m
+  pub m3 : natAbs (x .x3) ≤ m
+
+-- entry j of a line of l: from place at on, a step apart
+abbrev pub reach : List ℤ → ℕ → ℕ → ℕ → ℤ
+reach l at step j = getD l (at + j * step) (pos 0)
+
+-- l with g 0, .., g (n - 1) on that line
+unfoldable pub stores : ℕ → ℕ → ℕ → (ℕ → ℤ) → List ℤ → List ℤ
+stores zero at step g l = l
+stores (suc n) at step g l = set (stores n at step g l) (at + n * step) (g n)
+
+-- l with the n entries of that line transformed
+abbrev pub lined : ℕ → ℕ → ℕ → List ℤ → List ℤ
+lined n at step l = stores n at step (output n (reach l at step)) l
+
+-- l after the first m of its lines are transformed, line a from place a * first on
+unfoldable pub allLined : ℕ → ℕ → ℕ → ℕ → List ℤ → List ℤ
+allLined n first step zero l = l
+allLined n first step (suc m) l = lined n (m * first) step (allLined n first step m l)
+
+-- the sizes that have a network
+abbrev pub Sized : ℕ → Type 0
+Sized n = cond (eqb n 4) true (eqb n 8) ≡ true
+
+-- every entry of l is at most m in size
+pub record Within (m : ℕ) (l : List ℤ) : Type 0 where
+  pub most : (i : ℕ) → natAbs (getD l i (pos 0)) ≤ m
+
+-- a line of n entries lies in l, and they are at most m in size
+pub record LineIn (n at step m : ℕ) (l : List ℤ) : Type 0 where
+  pub room : (j : ℕ) → j < n → at + j * step < length l
+  pub most : (j : ℕ) → j < n → natAbs (reach l at step j) ≤ m
+
+-- n lines lie in l, and no two share a place
+pub record LinesIn (n first step : ℕ) (l : List ℤ) : Type 0 where
+  pub some : 0 < step
+  pub own : (a b i j : ℕ) → a < n → b < n → i < n → j < n → a * first + i * step ≡ b * first + j * step → a ≡ b
+  pub room : (a i : ℕ) → a < n → i < n → a * first + i * step < length l

@@ -1,0 +1,2 @@
+pub mod BlockSums
+pub mod Unique

@@ -1,0 +1,53 @@
+-- `importance::importance` meets its contract: a refusal is handed on, and else the total is divided by the number of blocks. Assumes nothing.
+use mathlib.Core.Path.{_≡_, sym, ap, _∙_}
+use Prim.Native.Nat.{ℕ, _≤_}
+use native.Mathlib.Nat.{mul-le-mul}
+use native.Mathlib.Omega.{arith}
+use borrow.Author.Needs.{needs}
+use lib.ListN.{length}
+use Rattle.answer.proofs.Laws.{answer-given, answer-refused}
+use Rattle.plane.specs.Blocks.{blocksAcross, blocksDown, blockCount}
+use Rattle.plane.specs.Planes.{maxSide, sizesFault}
+use Rattle.plane.proofs.PlaneLaws.{measured, pair}
+use Rattle.sums.specs.Quotient.{quotientOf}
+use Rattle.importance.proofs.importance.Statement.{statement}
+use Rattle.importance.proofs.importance.Tie as tie
+
+pair-fault-requires : tie.Need-pair-fault-requires
+pair-fault-requires c κs = search needs
+
+returns : tie.Need-returns
+returns c = answer-refused _ _ _ (c .before .pair-fault .ensures) (c .if1 .taken)
+
+-- past the test the planes are not refused
+sizes : (c : tie.Else1)
+    → let s = c .before .before .before .before .args in
+    sizesFault (s .p) (length (s .a .now)) (s .q) (length (s .b .now)) ≡ 0
+sizes c = measured _ _ _ _ _ (sym (c .before .pair-fault .ensures) ∙ c .if1 .left)
+
+all-differences-requires : tie.Need-all-differences-requires
+all-differences-requires c κs = sizes c
+
+mul-count : tie.Need-mul-count
+mul-count c =
+    let d = c .before .before .before in
+    let p = d .before .before .before .before .args .p in
+    let f = pair _ _ _ _ (sizes d) .first in
+    let down : blocksDown p ≤ maxSide = omega arith in
+    let across : blocksAcross p ≤ maxSide = omega arith in
+    record { fits = omega (arith, mul-le-mul down across) }
+
+quotient-requires : tie.Need-quotient-requires
+quotient-requires c κs = search needs
+
+returns-2 : tie.Need-returns-2
+returns-2 c =
+    let d = c .before .before .before in
+    let p = d .before .before .before .before .before .args .p in
+    answer-given _ _ _ (sym (d .before .if1 .left) ∙ d .before .before .pair-fault .ensures)
+    (c .quotient .ensures ∙ ap (λ (total : ℕ). quotientOf total (blockCount p)) (d .all-differences .ensures))
+
+pub importance-spec : {M : Type 1} → statement M
+importance-spec =
+    tie.close
+    (tie.spec pair-fault-requires returns all-differences-requires mul-count quotient-requires returns-2)

@@ -1,0 +1,42 @@
+-- Document 01, "Importance": how far the rounded means of two planes' whole blocks lie apart.
+use Prim.Native.Nat.{ℕ, _+_, _*_, _/_}
+use mathlib.Core.List.{List}
+use lib.Ieee.{Float}
+use lib.ListN.{length, getD}
+use Rattle.answer.specs.Answer.{Answer, answered}
+use Rattle.plane.specs.Blocks.{blockSide, blocksAcross, blocksDown, blockCount, blockSample}
+use Rattle.plane.specs.Planes.{pairFault}
+use Rattle.plane.specs.declared.Plane.{Plane}
+use Rattle.sums.specs.Quotient.{quotientOf}
+use Rattle.sums.specs.Sums.{sumBelow, apart}
+
+-- "Per whole 8×8 block": the sum of its samples
+abbrev pub blockSum : Plane → List ℕ → ℕ → ℕ → ℕ
+blockSum p s y x = sumBelow blockSide (λ (j : ℕ). sumBelow blockSide (λ (i : ℕ). blockSample p s y x j i))
+
+-- "(sum + 32) / 64 rounded down in each plane"
+abbrev pub mean : ℕ → ℕ
+mean sum = (sum + 32) / 64
+
+-- "then the absolute difference"
+abbrev pub blockDifference : Plane → List ℕ → Plane → List ℕ → ℕ → ℕ → ℕ
+blockDifference p a q b y x = apart (mean (blockSum p a y x)) (mean (blockSum q b y x))
+
+-- the total over a row of blocks, and over all of them
+abbrev pub blocksDifference : Plane → List ℕ → Plane → List ℕ → ℕ → ℕ
+blocksDifference p a q b y = sumBelow (blocksAcross p) (blockDifference p a q b y)
+
+unfoldable pub importanceTotal : Plane → List ℕ → Plane → List ℕ → ℕ
+importanceTotal p a q b = sumBelow (blocksDown p) (blocksDifference p a q b)
+
+abbrev pub totalOf : ℕ → Plane → List ℕ → Plane → List ℕ → Answer ℕ
+totalOf depth p a q b = answered (pairFault depth p (length a) q (length b)) (importanceTotal p a q b)
+
+-- "the total over the number of blocks. With no whole block this is 0/0, a NaN."
+abbrev pub importanceOf : ℕ → Plane → List ℕ → Plane → List ℕ → Answer Float
+importanceOf depth p a q b =
+    answered (pairFault depth p (length a) q (length b)) (quotientOf (importanceTotal p a q b) (blockCount p))
+
+-- the same sum by places, for the private functions: eight rows of eight samples, a stride apart
+abbrev pub squareSum : List ℕ → ℕ → ℕ → ℕ
+squareSum s start stride = sumBelow blockSide (λ (j : ℕ). sumBelow blockSide (λ (i : ℕ). getD s (start + j * stride + i) 0))

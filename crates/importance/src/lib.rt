@@ -1,0 +1,105 @@
+// Importance: `estimate_importance_block_difference` of analyze/importance.rs, before the division and after it.
+use answer::Real;
+use answer::Whole;
+use plane::Plane;
+ghost use mathlib.Core.Path.{_≡_};
+ghost use Prim.Native.Nat.{ℕ, _+_, _*_, _^_, _≤_, _<_};
+ghost use lib.ListN.{length, getD};
+ghost use Rattle.answer.specs.Answer.{wholeAnswer, realAnswer};
+ghost use Rattle.plane.specs.Blocks.{blockSide, blocksDown};
+ghost use Rattle.plane.specs.Planes.{sizesFault};
+ghost use Rattle.sums.specs.Sums.{sumBelow, apart};
+ghost use Rattle.importance.specs.Importance.{mean, squareSum, blocksDifference, importanceTotal, totalOf, importanceOf};
+
+// The side of a block.
+const SIDE: usize = 8;
+
+// The sum of a part's first eight samples.
+fn sum_row(s: &[u8]) -> u32
+    requires { ⌜ blockSide ≤ length (now s) ⌝ }
+    ensures { λ r. ⌜ r ≡ sumBelow blockSide (λ (i : ℕ). getD (now (s .entry)) i 0) ⌝ }
+{
+    let mut sum: u32 = 0;
+    for i in 0..SIDE {
+        sum += s[i] as u32;
+    }
+    sum
+}
+
+// The sum of the block that starts at a place.
+fn sum_8x8_block(s: &[u8], start: usize, stride: usize) -> u32
+    requires { ⌜ ((j : ℕ) → j < blockSide → start + j * stride + blockSide ≤ length (now s)) ⌝ }
+    ensures { λ r. ⌜ r ≡ squareSum (now (s .entry)) start stride ⌝ }
+{
+    let mut sum: u32 = 0;
+    for j in 0..SIDE {
+        let i = start + j * stride;
+        sum += sum_row(&s[i..]);
+    }
+    sum
+}
+
+// How far two rounded means lie apart. Each is rounded by itself: the mean of the differences is another number.
+fn means_apart(org: u32, other: u32) -> u32
+    requires { ⌜ (org < 2 ^ 31) × (other < 2 ^ 31) ⌝ }
+    ensures { λ r. ⌜ r ≡ apart (mean org) (mean other) ⌝ }
+{
+    let m = (org + 32) / 64;
+    let n = (other + 32) / 64;
+    if m < n { n - m } else { m - n }
+}
+
+// The differences of row y of blocks.
+fn blocks_difference(p: Plane, a: &[u8], q: Plane, b: &[u8], y: usize) -> u64
+    requires { ⌜ sizesFault p (length (now a)) q (length (now b)) ≡ 0 ⌝ }
+    requires { ⌜ y < blocksDown p ⌝ }
+    ensures { λ r. ⌜ r ≡ blocksDifference p (now (a .entry)) q (now (b .entry)) y ⌝ }
+{
+    let step = p.stride;
+    let step2 = q.stride;
+    let start = p.origin + y * SIDE * step;
+    let start2 = q.origin + y * SIDE * step2;
+    let mut total: u64 = 0;
+    for x in 0..p.width / SIDE {
+        let org = sum_8x8_block(a, start + x * SIDE, step);
+        let other = sum_8x8_block(b, start2 + x * SIDE, step2);
+        total += means_apart(org, other) as u64;
+    }
+    total
+}
+
+// The differences of all whole blocks of two planes that are not refused.
+fn all_differences(p: Plane, a: &[u8], q: Plane, b: &[u8]) -> u64
+    requires { ⌜ sizesFault p (length (now a)) q (length (now b)) ≡ 0 ⌝ }
+    ensures { λ r. ⌜ r ≡ importanceTotal p (now (a .entry)) q (now (b .entry)) ⌝ }
+{
+    let mut total: u64 = 0;
+    for y in 0..p.height / SIDE {
+        total += blocks_difference(p, a, q, b, y);
+    }
+    total
+}
+
+// The importance total of two planes, before the division.
+pub fn importance_total(depth: u32, p: Plane, a: &[u8], q: Plane, b: &[u8]) -> Whole
+    ensures { λ r. ⌜ wholeAnswer r ≡ totalOf depth p (now (a .entry)) q (now (b .entry)) ⌝ }
+{
+    let fault = plane::pair_fault(depth, p, a.len(), q, b.len());
+    if fault != 0 {
+        return Whole::Refused(fault);
+    }
+    Whole::Number(all_differences(p, a, q, b))
+}
+
+// The importance of two planes: the total over the number of blocks, and with no block a NaN.
+pub fn importance(depth: u32, p: Plane, a: &[u8], q: Plane, b: &[u8]) -> Real
+    ensures { λ r. ⌜ realAnswer r ≡ importanceOf depth p (now (a .entry)) q (now (b .entry)) ⌝ }
+{
+    let fault = plane::pair_fault(depth, p, a.len(), q, b.len());
+    if fault != 0 {
+        return Real::Refused(fault);
+    }
+    let total = all_differences(p, a, q, b);
+    let count = (p.height / SIDE) * (p.width / SIDE);
+    Real::Number(sums::quotient(total, count as u64))
+}

@@ -1,0 +1,30 @@
+-- Document 01, "Intra cost": what the work plane holds afterwards.
+use Prim.Native.Nat.{ℕ, _+_, _*_}
+use mathlib.Core.Bool.{Bool, _&&_}
+use mathlib.Core.List.{List}
+use lib.Dec.{leb, ltb}
+use Rattle.plane.specs.Blocks.{blockSide, blocksAcross, blocksDown}
+use Rattle.plane.specs.declared.Plane.{Plane}
+use Rattle.sums.specs.Any.{anyBelow}
+use Rattle.sums.specs.Written.{written}
+
+-- "flat 128"
+abbrev pub flat : ℕ
+flat = 128
+
+-- place k is one of the n places from `start` on
+abbrev pub inRun : ℕ → ℕ → ℕ → Bool
+inRun start n k = leb start k && ltb k (start + n)
+
+-- place k lies in one of m rows of n places, the first from `start` on and each next a stride further
+unfoldable pub inRows : ℕ → ℕ → ℕ → ℕ → ℕ → Bool
+inRows start stride m n k = anyBelow m (λ (j : ℕ). inRun (start + j * stride) n k)
+
+-- those rows filled flat; every other place stays
+abbrev pub filled : ℕ → ℕ → ℕ → ℕ → List ℕ → List ℕ
+filled start stride m n s = written (inRows start stride m n) (λ (k : ℕ). flat) s
+
+-- "In the lent work plane each block's eight rows are filled from its own column onward, eight samples of 128 in each row; samples outside
+-- whole blocks stay." The whole blocks cover this many rows and columns from the origin on.
+abbrev pub workAfter : Plane → List ℕ → List ℕ
+workAfter w s = filled (w .origin) (w .stride) (blocksDown w * blockSide) (blocksAcross w * blockSide) s

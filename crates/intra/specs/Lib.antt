@@ -1,0 +1,3 @@
+pub mod Fill
+pub mod Costs
+pub mod Threshold

@@ -1,0 +1,22 @@
+-- Where the whole blocks of a plane lie. Assumes nothing.
+use mathlib.Core.List.{List}
+use mathlib.Core.Path.{_≡_, ap}
+use Prim.Native.Nat.{ℕ, _+_, _*_, _≤_, _<_}
+use native.Mathlib.Nat.{add-mul}
+use native.Mathlib.Omega.{arith}
+use lib.ListN.{getD}
+use Rattle.plane.specs.declared.Plane.{Plane}
+use Rattle.plane.specs.Blocks.{blockSide, blocksAcross, blocksDown, blockSample, blockStart}
+use Rattle.plane.proofs.PlaneLaws.{Lies, row-in}
+
+-- row j of a block lies within the samples
+pub block-in : (p : Plane) (n y x j : ℕ) → Lies p n → y < blocksDown p → x < blocksAcross p → j < blockSide → blockStart p y x + j * p .stride + blockSide ≤ n
+block-in p n y x j l hy hx hj =
+    omega (arith, row-in p n (y * blockSide + j) l (omega arith), add-mul (y * blockSide) j (p .stride))
+
+-- a sample of a block, by its place
+pub block-place : (p : Plane) (s : List ℕ) (y x j i : ℕ) → blockSample p s y x j i ≡ getD s (blockStart p y x + j * p .stride + i) 0
+block-place p s y x j i =
+    let place : p .origin + (y * blockSide + j) * p .stride + (x * blockSide + i) ≡ blockStart p y x + j * p .stride + i =
+    omega (arith, add-mul (y * blockSide) j (p .stride)) in
+    ap (λ (k : ℕ). getD s k 0) place

@@ -1,0 +1,2 @@
+pub mod SatdLaws
+pub mod Unique

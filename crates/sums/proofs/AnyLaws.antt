@@ -1,0 +1,45 @@
+-- The laws of `anyBelow`. Assumes nothing.
+use mathlib.Core.Bool.{Bool, true, false, _||_}
+use mathlib.Core.Path.{_≡_, refl, sym, ap, _∙_}
+use Prim.Native.Nat.{ℕ, zero, suc, _+_}
+use native.Mathlib.Nat.{add-zero, add-suc}
+use Rattle.sums.specs.Any.{anyBelow}
+
+or-assoc : (a b c : Bool) → (a || b) || c ≡ a || (b || c)
+or-assoc true b c = refl
+or-assoc false b c = refl
+
+or-swap : (a b c d : Bool) → (a || b) || (c || d) ≡ (a || c) || (b || d)
+or-swap true b c d = refl
+or-swap false true true d = refl
+or-swap false true false d = refl
+or-swap false false c d = refl
+
+or-false-right : (a : Bool) → a || false ≡ a
+or-false-right true = refl
+or-false-right false = refl
+
+-- a test that never holds
+pub any-none : (n : ℕ) (f : ℕ → Bool) → ((i : ℕ) → f i ≡ false) → anyBelow n f ≡ false
+unfolding anyBelow
+any-none zero f e = refl
+any-none (suc n) f e = rw (any-none n f e, e n)
+
+-- equal tests
+pub any-ext : (n : ℕ) (f g : ℕ → Bool) → ((i : ℕ) → f i ≡ g i) → anyBelow n f ≡ anyBelow n g
+unfolding anyBelow
+any-ext zero f g e = refl
+any-ext (suc n) f g e = rw (any-ext n f g e, e n)
+
+-- two tests at once
+pub any-or : (n : ℕ) (f g : ℕ → Bool) → anyBelow n (λ (i : ℕ). f i || g i) ≡ anyBelow n f || anyBelow n g
+unfolding anyBelow
+any-or zero f g = refl
+any-or (suc n) f g = ap (λ (b : Bool). b || (f n || g n)) (any-or n f g) ∙ or-swap (anyBelow n f) (anyBelow n g) (f n) (g n)
+
+-- a range cut in two
+pub any-cut : (m n : ℕ) (f : ℕ → Bool) → anyBelow (m + n) f ≡ anyBelow m f || anyBelow n (λ (i : ℕ). f (m + i))
+unfolding anyBelow
+any-cut m zero f = rw add-zero (sym (or-false-right (anyBelow m f)))
+any-cut m (suc n) f =
+    rw add-suc (ap (λ (b : Bool). b || f (m + n)) (any-cut m n f) ∙ or-assoc (anyBelow m f) (anyBelow n (λ (i : ℕ). f (m + i))) (f (m + n)))

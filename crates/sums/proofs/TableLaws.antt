@@ -1,0 +1,37 @@
+-- The laws of `table`, over any element type. Assumes nothing.
+use mathlib.Core.Logic.{⊎-elim}
+use mathlib.Core.List.{List, [], _∷_, _++_}
+use mathlib.Core.Path.{_≡_, refl, sym, subst, _∙_}
+use Prim.Native.Nat.{ℕ, zero, suc, _<_}
+use native.Mathlib.Nat.{eq-or-lt-of-le}
+use native.Mathlib.Omega.{arith}
+use lib.ListN.{length, getD, length-append, List·getD-append}
+use lib.Seq.{getD-at, ext-getD}
+use Rattle.sums.specs.Table.{table}
+
+pub length-table : {A : Type 0} (n : ℕ) (g : ℕ → A) → length (table n g) ≡ n
+unfolding table
+length-table zero g = refl
+length-table (suc n) g = length-append (table n g) (g n ∷ []) ∙ omega (arith, length-table n g)
+
+-- equal rules make equal lists
+pub table-ext : {A : Type 0} (n : ℕ) (g h : ℕ → A) → ((k : ℕ) → g k ≡ h k) → table n g ≡ table n h
+unfolding table
+table-ext zero g h e = refl
+table-ext (suc n) g h e = rw (table-ext n g h e, e n)
+
+module _ {A : Type 0} (d : A) where
+  pub table-at : (n : ℕ) (g : ℕ → A) (k : ℕ) → k < n → getD (table n g) k d ≡ g k
+  unfolding table
+  table-at zero g k h = absurd (omega arith)
+  table-at (suc n) g k h =
+      ⊎-elim
+      (λ (e : k ≡ n). subst (λ (i : ℕ). getD (table n g ++ (g n ∷ [])) i d ≡ g i) (sym e) (getD-at (table n g) (g n) [] d n (length-table n g)))
+      (λ (l : k < n). List·getD-append (table n g) (g n ∷ []) d k (omega (arith, length-table n g)) ∙ table-at n g k l)
+      (eq-or-lt-of-le (omega arith))
+
+  -- a list with the right length and the right elements is the table
+  pub is-table : (n : ℕ) (g : ℕ → A) (l : List A) → length l ≡ n → ((k : ℕ) → k < n → getD l k d ≡ g k) → l ≡ table n g
+  is-table n g l e h =
+      ext-getD d l (table n g) (e ∙ sym (length-table n g))
+      (λ k k<. let k<n : k < n = omega arith in h k k<n ∙ sym (table-at n g k k<n))
