@@ -1,0 +1,4 @@
+pub mod Films
+pub mod Meeting
+pub mod History
+pub mod Witness
