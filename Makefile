@@ -86,8 +86,8 @@ install-command: command
 run: $(COMMAND)
 	@$(RUN) $(COMMAND) demo
 
-check-c: $(COMMAND) $(CHECK) $(FILM) $(HEADER)
-	@RUN='$(RUN)' NM='$(NM)' ARCHIVE='$(ARCHIVE)' COMMAND='$(COMMAND)' CHECK='$(CHECK)' FILM='$(FILM)' sh tests/run.sh
+check-c: lib $(COMMAND) $(CHECK) $(FILM)
+	@RUN='$(RUN)' NM='$(NM)' COMPILER='$(C_COMPILER)' ARCHIVE='$(ARCHIVE)' COMMAND='$(COMMAND)' CHECK='$(CHECK)' FILM='$(FILM)' sh tests/run.sh
 
 test:
 	.ci/run

@@ -24,5 +24,5 @@ as_root=
 echo "installing Debian's $packages" >&2
 $as_root apt-get update -q >&2
 # shellcheck disable=SC2086 # two packages, two words
-DEBIAN_FRONTEND=noninteractive $as_root apt-get install -y -q --no-install-recommends $packages >&2
+$as_root env DEBIAN_FRONTEND=noninteractive apt-get install -y -q --no-install-recommends $packages >&2
 works || { echo "'$compiler' still does not work" >&2; exit 1; }
