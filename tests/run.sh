@@ -2,6 +2,8 @@
 # All tests in C and of the command. Its last line is 'N passed, M failed', over all parts.
 set -u
 here=$(dirname "$0")
+room=$(mktemp -d) || exit 1
+trap 'rm -rf "$room"' EXIT
 passed=0
 failed=0
 
@@ -9,15 +11,17 @@ failed=0
 part() { # NAME WORDS..
     name=$1
     shift
-    last=$("$@" | tail -n 1)
-    case $last in
-        *' passed, '*' failed')
+    "$@" > "$room/out"
+    status=$?
+    last=$(tail -n 1 "$room/out")
+    case "$status $last" in
+        '0 '*' passed, 0 failed' | '1 '*' passed, '[1-9]*' failed')
             passed=$((passed + ${last%% *}))
             rest=${last#* passed, }
             failed=$((failed + ${rest%% *}))
             ;;
         *)
-            echo "FAILED: $name ended without its count: '$last'" >&2
+            echo "FAILED: $name ended with status $status and '$last'" >&2
             failed=$((failed + 1))
             ;;
     esac
