@@ -1,16 +1,18 @@
 -- Sums and means of blocks, over the largest sample k. Assumes nothing.
 use mathlib.Core.List.{List}
 use mathlib.Core.Path.{_≡_, sym, _∙_}
-use Prim.Native.Nat.{ℕ, _+_, _-_, _*_, _≤_}
+use Prim.Native.Nat.{ℕ, _+_, _-_, _*_, _≤_, _<_, _^_}
 use native.Mathlib.Omega.{arith}
 use lib.ListN.{length, getD, take, drop}
 use lib.Seq.{getD-take, getD-drop}
-use Rattle.plane.specs.Blocks.{blockSide, blocksAcross, blockSample, blockStart}
+use Rattle.plane.specs.Blocks.{blockSide, blocksAcross, blocksDown, blockSample, blockStart}
+use Rattle.plane.specs.Planes.{pairFault}
 use Rattle.plane.specs.declared.Plane.{Plane}
 use Rattle.plane.proofs.BlockLaws.{block-place}
+use Rattle.plane.proofs.PlaneLaws.{pair, measured, total-fits}
 use Rattle.sums.specs.Sums.{sumBelow, apart}
 use Rattle.sums.proofs.SumLaws.{sum-ext, sum-most}
-use Rattle.importance.specs.Importance.{blockSum, mean, blockDifference, blocksDifference, squareSum}
+use Rattle.importance.specs.Importance.{blockSum, mean, blockDifference, blocksDifference, importanceTotal, squareSum}
 
 -- a block's sum by places is the plane's own
 pub square-is : (p : Plane) (s : List ℕ) (y x : ℕ) → squareSum s (blockStart p y x) (p .stride) ≡ blockSum p s y x
@@ -56,3 +58,10 @@ module _ (k : ℕ) (p : Plane) (a : List ℕ) (q : Plane) (b : List ℕ) (l : (i
 
   pub totals-most : (n : ℕ) → sumBelow n (blocksDifference p a q b) ≤ n * (blocksAcross p * k)
   totals-most n = sum-most (blocksAcross p * k) n (blocksDifference p a q b) (λ y _. differences-most y (blocksAcross p))
+
+  -- all blocks of two planes that are not refused
+  pub total-most : (depth : ℕ) → k < 2 ^ 16 → pairFault depth p (length a) q (length b) ≡ 0 → importanceTotal p a q b < 2 ^ 42
+  unfolding importanceTotal
+  total-most depth s e =
+      let f = pair p (length a) q (length b) (measured depth p (length a) q (length b) e) .first in
+      omega (arith, totals-most (blocksDown p), total-fits (blocksDown p) (blocksAcross p) k (omega arith) (omega arith) s)

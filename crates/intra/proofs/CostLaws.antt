@@ -11,11 +11,15 @@ use lib.Dec.{ltb}
 use lib.ListN.{length, getD, take, drop, replicate, getD-replicate, List·getD-eq-default}
 use lib.Seq.{getD-take, getD-drop}
 use Rattle.answer.specs.Answer.{gives, refused, wholeAnswer}
+use Rattle.answer.specs.Refusal.{refusal}
+use Rattle.answer.proofs.Laws.{or-none}
 use Rattle.answer.specs.declared.Whole.{Whole}
 use Rattle.answer.specs.declared.Whole.the-variants as whole
-use Rattle.plane.specs.Blocks.{blockSide, blocksAcross, blockSample, blockStart}
+use Rattle.plane.specs.Blocks.{blockSide, blocksAcross, blockCount, blockSample, blockStart}
+use Rattle.plane.specs.Planes.{maxSide, pairFault}
 use Rattle.plane.specs.declared.Plane.{Plane}
-use Rattle.plane.proofs.BlockLaws.{block-place}
+use Rattle.plane.proofs.BlockLaws.{block-place, count-most}
+use Rattle.plane.proofs.PlaneLaws.{pair, measured}
 use Rattle.satd.specs.Satd.{satdValue, satdOf}
 use Rattle.satd.proofs.SatdLaws.{satd-given, satd-most}
 use Rattle.sums.specs.Table.{table}
@@ -23,7 +27,7 @@ use Rattle.sums.specs.Written.{written}
 use Rattle.sums.proofs.TableLaws.{length-table, table-at, table-ext}
 use Rattle.sums.proofs.WrittenLaws.{written-again, written-ext, prefix-none}
 use Rattle.intra.specs.Fill.{flat, inRun}
-use Rattle.intra.specs.Costs.{blockSize, blockOf, prediction, costAt, squareAt}
+use Rattle.intra.specs.Costs.{blockSize, blockOf, prediction, costAt, intraFault, squareAt}
 use Rattle.intra.proofs.FillLaws.{below-beside, run-holds}
 
 -- sample k of row y, read from the part that starts at the row, is the block's
@@ -118,3 +122,10 @@ costs-more p s y costs =
     written-again (λ (k : ℕ). ltb k (y * a)) (inRun (y * a) a) (costAt p s) costs
     ∙ written-ext (λ (k : ℕ). ltb k (y * a) || inRun (y * a) a k) (λ (k : ℕ). ltb k ((y + 1) * a)) (costAt p s) costs
     (λ k. let e : y * a + a ≡ (y + 1) * a = omega (arith, add-mul y 1 a) in below-beside (y * a) a k ∙ ap (ltb k) e)
+
+-- the answer of a call that is not refused
+pub blocks-most : (depth : ℕ) (p : Plane) (n : ℕ) (w : Plane) (m room : ℕ) → intraFault depth p n w m room ≡ 0 → blockCount p ≤ maxSide * maxSide
+unfolding intraFault
+blocks-most depth p n w m room e =
+    let f = or-none (pairFault depth p n w m) (refusal 4 (ltb room (blockCount p))) e .0 in
+    count-most p n (pair p n w m (measured depth p n w m f) .first)

@@ -2,12 +2,20 @@
 use mathlib.Core.List.{List}
 use mathlib.Core.Path.{_≡_, ap}
 use Prim.Native.Nat.{ℕ, _+_, _*_, _≤_, _<_}
-use native.Mathlib.Nat.{add-mul}
+use native.Mathlib.Nat.{add-mul, mul-le-mul}
 use native.Mathlib.Omega.{arith}
 use lib.ListN.{getD}
 use Rattle.plane.specs.declared.Plane.{Plane}
-use Rattle.plane.specs.Blocks.{blockSide, blocksAcross, blocksDown, blockSample, blockStart}
+use Rattle.plane.specs.Blocks.{blockSide, blocksAcross, blocksDown, blockCount, blockSample, blockStart}
+use Rattle.plane.specs.Planes.{maxSide}
 use Rattle.plane.proofs.PlaneLaws.{Lies, row-in}
+
+-- how many there are at most, which any integer of 64 bits holds
+pub count-most : (p : Plane) (n : ℕ) → Lies p n → blockCount p ≤ maxSide * maxSide
+count-most p n l =
+    let down : blocksDown p ≤ maxSide = omega arith in
+    let across : blocksAcross p ≤ maxSide = omega arith in
+    mul-le-mul down across
 
 -- row j of a block lies within the samples
 pub block-in : (p : Plane) (n y x j : ℕ) → Lies p n → y < blocksDown p → x < blocksAcross p → j < blockSide → blockStart p y x + j * p .stride + blockSide ≤ n

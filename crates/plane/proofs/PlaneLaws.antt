@@ -144,6 +144,6 @@ pub measured : (depth : ℕ) (p : Plane) (n : ℕ) (q : Plane) (m : ℕ) → pai
 unfolding pairFault
 measured depth p n q m e = or-none (depthFault depth) (sizesFault p n q m) e .1
 
--- a plane's total fits, at samples of 8 bits as of 16
-pub total-fits : (n w k : ℕ) → n ≤ maxSide → w ≤ maxSide → k < 2 ^ 16 → n * (w * k) < 2 ^ 64
+-- a plane's total, at samples of 8 bits as of 16: any integer of 64 bits holds it, a signed one too
+pub total-fits : (n w k : ℕ) → n ≤ maxSide → w ≤ maxSide → k < 2 ^ 16 → n * (w * k) < 2 ^ 42
 total-fits n w k h i j = let j′ : k ≤ 65535 = omega arith in omega (arith, mul-le-mul h (mul-le-mul i j′))

@@ -1,24 +1,33 @@
--- The factor is never 0. Assumes nothing.
+-- The factor is never 0, and at most 32. Assumes nothing.
 use mathlib.Core.Bool.{Bool, true, false, cond}
-use Prim.Native.Nat.{ℕ, _<_}
+use Prim.Native.Nat.{ℕ, _≤_, _<_}
 use native.Mathlib.Omega.{arith}
 use lib.Dec.{leb, eqb}
 use Rattle.scale.specs.Scale.{factorBy, scaleOf, smallEdge, modeFast}
 
--- of two numbers above 0 either is
-some-of : (b : Bool) (m n : ℕ) → 0 < m → 0 < n → 0 < cond b m n
-some-of true m n h k = h
-some-of false m n h k = k
+-- what holds of two numbers holds of either
+abbrev InTable : ℕ → Type 0
+InTable n = (0 < n) × (n ≤ 32)
+
+either : (b : Bool) (m n : ℕ) → InTable m → InTable n → InTable (cond b m n)
+either true m n h k = h
+either false m n h k = k
+
+in-table : (width height mode : ℕ) → InTable (scaleOf width height mode)
+unfolding scaleOf factorBy
+in-table width height mode =
+    let e = smallEdge width height in
+    let one : InTable 1 = (omega arith, omega arith) in
+    either (eqb mode modeFast) (factorBy e) 1
+    (either (leb e 240) 1 _ one
+    (either (leb e 480) 2 _ (omega arith, omega arith)
+    (either (leb e 720) 4 _ (omega arith, omega arith)
+    (either (leb e 1080) 8 _ (omega arith, omega arith)
+    (either (leb e 1600) 16 32 (omega arith, omega arith) (omega arith, omega arith))))))
+    one
 
 pub some-factor : (width height mode : ℕ) → 0 < scaleOf width height mode
-unfolding scaleOf factorBy
-some-factor width height mode =
-    let e = smallEdge width height in
-    let one : 0 < 1 = omega arith in
-    some-of (eqb mode modeFast) (factorBy e) 1
-    (some-of (leb e 240) 1 _ one
-    (some-of (leb e 480) 2 _ (omega arith)
-    (some-of (leb e 720) 4 _ (omega arith)
-    (some-of (leb e 1080) 8 _ (omega arith)
-    (some-of (leb e 1600) 16 32 (omega arith) (omega arith))))))
-    one
+some-factor width height mode = in-table width height mode .0
+
+pub factor-most : (width height mode : ℕ) → scaleOf width height mode ≤ 32
+factor-most width height mode = in-table width height mode .1

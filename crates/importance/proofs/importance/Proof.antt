@@ -1,13 +1,13 @@
 -- `importance::importance` meets its contract: a refusal is handed on, and else the total is divided by the number of blocks. Assumes nothing.
 use mathlib.Core.Path.{_≡_, sym, ap, _∙_}
-use Prim.Native.Nat.{ℕ, _≤_}
-use native.Mathlib.Nat.{mul-le-mul}
+use Prim.Native.Nat.{ℕ}
 use native.Mathlib.Omega.{arith}
 use borrow.Author.Needs.{needs}
 use lib.ListN.{length}
 use Rattle.answer.proofs.Laws.{answer-given, answer-refused}
-use Rattle.plane.specs.Blocks.{blocksAcross, blocksDown, blockCount}
-use Rattle.plane.specs.Planes.{maxSide, sizesFault}
+use Rattle.plane.specs.Blocks.{blockCount}
+use Rattle.plane.specs.Planes.{sizesFault}
+use Rattle.plane.proofs.BlockLaws.{count-most}
 use Rattle.plane.proofs.PlaneLaws.{measured, pair}
 use Rattle.sums.specs.Quotient.{quotientOf}
 use Rattle.importance.proofs.importance.Statement.{statement}
@@ -32,10 +32,7 @@ mul-count : tie.Need-mul-count
 mul-count c =
     let d = c .before .before .before in
     let p = d .before .before .before .before .args .p in
-    let f = pair _ _ _ _ (sizes d) .first in
-    let down : blocksDown p ≤ maxSide = omega arith in
-    let across : blocksAcross p ≤ maxSide = omega arith in
-    record { fits = omega (arith, mul-le-mul down across) }
+    record { fits = omega (arith, count-most p _ (pair _ _ _ _ (sizes d) .first)) }
 
 quotient-requires : tie.Need-quotient-requires
 quotient-requires c κs = search needs

@@ -1,7 +1,6 @@
 -- `intra::estimate_intra_costs` meets its contract: a refusal leaves both lent places as they were, and else all blocks are filled and priced. Assumes nothing.
 use mathlib.Core.Path.{_≡_, refl, sym, _∙_}
 use Prim.Native.Nat.{_≤_}
-use native.Mathlib.Nat.{mul-le-mul}
 use native.Mathlib.Omega.{arith}
 use borrow.Author.Needs.{needs}
 use borrow.Author.Tests.{ltb-false}
@@ -9,8 +8,9 @@ use lib.Dec.{ltb}
 use lib.ListN.{length}
 use Rattle.answer.specs.Refusal.{refusal}
 use Rattle.answer.proofs.Laws.{or-none, passed, answer-given, answer-refused, lent-written, lent-kept}
-use Rattle.plane.specs.Blocks.{blocksAcross, blocksDown, blockCount}
-use Rattle.plane.specs.Planes.{maxSide, pairFault, sizesFault}
+use Rattle.plane.specs.Blocks.{blockCount}
+use Rattle.plane.specs.Planes.{pairFault, sizesFault}
+use Rattle.plane.proofs.BlockLaws.{count-most}
 use Rattle.plane.proofs.PlaneLaws.{measured, pair}
 use Rattle.intra.specs.Costs.{intraFault}
 use Rattle.intra.proofs.estimate_intra_costs.Statement.{statement}
@@ -46,10 +46,7 @@ mul-t10 : tie.Need-mul-t10
 mul-t10 c =
     let d = c .before .before .before .before .before .before .before .before .before in
     let p = d .before .before .before .before .before .args .p in
-    let f = pair _ _ _ _ (fine d .0) .first in
-    let down : blocksDown p ≤ maxSide = omega arith in
-    let across : blocksAcross p ≤ maxSide = omega arith in
-    record { fits = omega (arith, mul-le-mul down across) }
+    record { fits = omega (arith, count-most p _ (pair _ _ _ _ (fine d .0) .first)) }
 
 same-length : tie.Need-same-length
 same-length c = search needs

@@ -1,13 +1,11 @@
 -- `intra::intra_fault` meets its contract: the planes' refusal comes first, and of planes that are not refused the block count fits. Assumes nothing.
 use mathlib.Core.Path.{sym, _∙_}
-use Prim.Native.Nat.{_≤_}
-use native.Mathlib.Nat.{mul-le-mul}
 use native.Mathlib.Omega.{arith}
 use borrow.Author.Needs.{needs}
 use borrow.Author.Tests.{lt-ltb, le-ltb}
 use Rattle.answer.proofs.Laws.{or-given, or-later}
-use Rattle.plane.specs.Blocks.{blocksAcross, blocksDown, blockCount}
-use Rattle.plane.specs.Planes.{maxSide}
+use Rattle.plane.specs.Blocks.{blockCount}
+use Rattle.plane.proofs.BlockLaws.{count-most}
 use Rattle.plane.proofs.PlaneLaws.{measured, pair}
 use Rattle.intra.specs.Costs.{intraFault}
 use Rattle.intra.proofs.intra_fault.Statement.{statement}
@@ -25,9 +23,7 @@ mul-if2 c =
     let d = c .before .before in
     let p = d .before .before .args .p in
     let f = pair _ _ _ _ (measured _ _ _ _ _ (sym (d .before .pair-fault .ensures) ∙ d .if1 .left)) .first in
-    let down : blocksDown p ≤ maxSide = omega arith in
-    let across : blocksAcross p ≤ maxSide = omega arith in
-    record { fits = omega (arith, mul-le-mul down across) }
+    record { fits = omega (arith, count-most p _ f) }
 
 returns-2 : tie.Need-returns-2
 unfolding intraFault

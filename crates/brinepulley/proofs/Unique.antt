@@ -1,0 +1,82 @@
+-- Each contract of this crate allows one outcome alone: the number, and what every lent place holds at exit. Assumes nothing.
+use mathlib.Core.List.{List}
+use mathlib.Core.Path.{_≡_, sym, ap₂, _∙_}
+use Prim.Native.Nat.{ℕ}
+use denote.Ref.{now}
+use lib.IntN.{ℤ}
+use lib.Ieee.{Float}
+use Rattle.answer.specs.Unique.{OneOutcome}
+use Rattle.brinepulley.proofs.brine_scale_factor.Kinds as scale-factor-kinds
+use Rattle.brinepulley.proofs.brine_scale_factor.Reads as scale-factor-reads
+use Rattle.brinepulley.proofs.brine_plane_difference.Kinds as plane-difference-kinds
+use Rattle.brinepulley.proofs.brine_plane_difference.Reads as plane-difference-reads
+use Rattle.brinepulley.proofs.brine_importance_total.Kinds as importance-total-kinds
+use Rattle.brinepulley.proofs.brine_importance_total.Reads as importance-total-reads
+use Rattle.brinepulley.proofs.brine_delta.Kinds as delta-kinds
+use Rattle.brinepulley.proofs.brine_delta.Reads as delta-reads
+use Rattle.brinepulley.proofs.brine_importance.Kinds as importance-kinds
+use Rattle.brinepulley.proofs.brine_importance.Reads as importance-reads
+use Rattle.brinepulley.proofs.brine_intra_costs.Kinds as intra-costs-kinds
+use Rattle.brinepulley.proofs.brine_intra_costs.Reads as intra-costs-reads
+use Rattle.brinepulley.proofs.brine_threshold.Kinds as threshold-kinds
+use Rattle.brinepulley.proofs.brine_threshold.Reads as threshold-reads
+use Rattle.brinepulley.proofs.brine_hadamard4x4.Kinds as hadamard4x4-kinds
+use Rattle.brinepulley.proofs.brine_hadamard4x4.Reads as hadamard4x4-reads
+use Rattle.brinepulley.proofs.brine_hadamard8x8.Kinds as hadamard8x8-kinds
+use Rattle.brinepulley.proofs.brine_hadamard8x8.Reads as hadamard8x8-reads
+use Rattle.brinepulley.proofs.brine_satd8x8.Kinds as satd8x8-kinds
+use Rattle.brinepulley.proofs.brine_satd8x8.Reads as satd8x8-reads
+
+-- two outcomes that are both the number c and the place's content x
+same : {A : Type 0} {c : ℤ} {x : A} (r r′ : ℤ) (y y′ : A) → (r ≡ c) × (y ≡ x) → (r′ ≡ c) × (y′ ≡ x) → _≡_ {A = ℤ × A} (r, y) (r′, y′)
+same {A} r r′ y y′ p q = ap₂ (λ (z : ℤ) (a : A). (z, a)) (p .0 ∙ sym (q .0)) (p .1 ∙ sym (q .1))
+
+-- ---- no lent place is written
+
+pub scale-factor-unique : OneOutcome 0 scale-factor-kinds.ps scale-factor-kinds.r ℤ (λ κs r e. r) scale-factor-reads.Post
+unfolding OneOutcome
+scale-factor-unique κs a r r′ e e′ p q = p ∙ sym q
+
+pub plane-difference-unique : OneOutcome 2 plane-difference-kinds.ps plane-difference-kinds.r ℤ (λ κs r e. r) plane-difference-reads.Post
+unfolding OneOutcome
+plane-difference-unique κs a r r′ e e′ p q = p ∙ sym q
+
+pub importance-total-unique : OneOutcome 2 importance-total-kinds.ps importance-total-kinds.r ℤ (λ κs r e. r) importance-total-reads.Post
+unfolding OneOutcome
+importance-total-unique κs a r r′ e e′ p q = p ∙ sym q
+
+pub satd8x8-unique : OneOutcome 2 satd8x8-kinds.ps satd8x8-kinds.r ℤ (λ κs r e. r) satd8x8-reads.Post
+unfolding OneOutcome
+satd8x8-unique κs a r r′ e e′ p q = p ∙ sym q
+
+-- ---- one lent place is written
+
+pub delta-unique : OneOutcome 3 delta-kinds.ps delta-kinds.r (ℤ × Float) (λ κs r e. (r, now (e .1 .1 .1 .1 .1 .1 .1 .1 .1 .1 .1 .0))) delta-reads.Post
+unfolding OneOutcome
+delta-unique κs a r r′ e e′ p q = same r r′ (now (e .1 .1 .1 .1 .1 .1 .1 .1 .1 .1 .1 .0)) (now (e′ .1 .1 .1 .1 .1 .1 .1 .1 .1 .1 .1 .0)) p q
+
+pub importance-unique : OneOutcome 3 importance-kinds.ps importance-kinds.r (ℤ × Float) (λ κs r e. (r, now (e .1 .1 .1 .1 .1 .1 .1 .1 .1 .1 .1 .0))) importance-reads.Post
+unfolding OneOutcome
+importance-unique κs a r r′ e e′ p q = same r r′ (now (e .1 .1 .1 .1 .1 .1 .1 .1 .1 .1 .1 .0)) (now (e′ .1 .1 .1 .1 .1 .1 .1 .1 .1 .1 .1 .0)) p q
+
+pub threshold-unique : OneOutcome 2 threshold-kinds.ps threshold-kinds.r (ℤ × Float) (λ κs r e. (r, now (e .1 .1 .0))) threshold-reads.Post
+unfolding OneOutcome
+threshold-unique κs a r r′ e e′ p q = same r r′ (now (e .1 .1 .0)) (now (e′ .1 .1 .0)) p q
+
+pub hadamard4x4-unique : OneOutcome 1 hadamard4x4-kinds.ps hadamard4x4-kinds.r (ℤ × List ℤ) (λ κs r e. (r, now (e .0))) hadamard4x4-reads.Post
+unfolding OneOutcome
+hadamard4x4-unique κs a r r′ e e′ p q = same r r′ (now (e .0)) (now (e′ .0)) p q
+
+pub hadamard8x8-unique : OneOutcome 1 hadamard8x8-kinds.ps hadamard8x8-kinds.r (ℤ × List ℤ) (λ κs r e. (r, now (e .0))) hadamard8x8-reads.Post
+unfolding OneOutcome
+hadamard8x8-unique κs a r r′ e e′ p q = same r r′ (now (e .0)) (now (e′ .0)) p q
+
+-- ---- two lent places are written
+
+pub intra-costs-unique : OneOutcome 3 intra-costs-kinds.ps intra-costs-kinds.r (ℤ × List ℕ × List ℕ) (λ κs r e. (r, now (e .1 .1 .1 .1 .1 .1 .0), now (e .1 .1 .1 .1 .1 .1 .1 .1 .1 .1 .1 .0))) intra-costs-reads.Post
+unfolding OneOutcome
+intra-costs-unique κs a r r′ e e′ p q =
+    let answers : r ≡ r′ = p .0 ∙ sym (q .0) in
+    let works : now (e .1 .1 .1 .1 .1 .1 .0) ≡ now (e′ .1 .1 .1 .1 .1 .1 .0) = p .1 .0 ∙ sym (q .1 .0) in
+    let lists : now (e .1 .1 .1 .1 .1 .1 .1 .1 .1 .1 .1 .0) ≡ now (e′ .1 .1 .1 .1 .1 .1 .1 .1 .1 .1 .1 .0) = p .1 .1 ∙ sym (q .1 .1) in
+    rw (answers, works, lists)

@@ -1,0 +1,36 @@
+-- `brinepulley::brine_importance_total` meets its contract: the total of two planes that are not refused is small. Assumes nothing.
+use mathlib.Core.Path.{ap, _∙_}
+use native.Mathlib.Omega.{arith}
+use borrow.Author.Needs.{needs, sfits-of}
+use mir.Facts.{toZ-ofZ}
+use Rattle.plane.specs.declared.Plane.{Plane}
+use Rattle.importance.proofs.BlockSums.{total-most}
+use Rattle.brinepulley.specs.Coded.{coded, planeBy}
+use Rattle.brinepulley.proofs.Numbers.{small-answer}
+use Rattle.brinepulley.proofs.brine_importance_total.Statement.{statement}
+use Rattle.brinepulley.proofs.brine_importance_total.Tie as tie
+
+importance-total-requires : tie.Need-importance-total-requires
+importance-total-requires c κs = search needs
+
+whole-requires : tie.Need-whole-requires
+whole-requires c κs =
+    let k = c .before in
+    let s = k .before .before .args in
+    let p : Plane = planeBy (s .width) (s .height) (s .stride) (s .origin) in
+    let q : Plane = planeBy (s .width2) (s .height2) (s .stride2) (s .origin2) in
+    rw (c .importance-total .ensures)
+    (small-answer _ _
+    (λ e. omega (
+      arith,
+      total-most 255 p (s .first .now) q (s .second .now)
+          (λ i. omega (arith, k .before .shared-slice-known .given i))
+          (λ i. omega (arith, k .shared-slice-known2 .given i))
+          (s .depth) (omega arith) e,
+    )))
+
+returns : tie.Need-returns
+returns c = toZ-ofZ (sfits-of (c .whole .ok)) ∙ c .whole .ensures ∙ ap coded (c .before .importance-total .ensures)
+
+pub brine-importance-total-spec : {M : Type 1} → statement M
+brine-importance-total-spec = tie.close (tie.spec importance-total-requires whole-requires returns)

@@ -1,0 +1,33 @@
+-- Document 01, "Refusal numbers": what a C function returns. "each gives a whole number .., or the refusal number negated."
+use Prim.Native.Nat.{ℕ, _<_, _^_}
+use lib.IntN.{ℤ, pos, negℤ}
+use lib.Ieee.{Float}
+use Rattle.answer.specs.Answer.{Answer, gives, refused, answered}
+use Rattle.plane.specs.declared.Plane.{Plane}
+
+abbrev pub coded : Answer ℕ → ℤ
+coded (gives n) = pos n
+coded (refused f) = negℤ (pos f)
+
+-- the answer of a function that has nothing to count: 0
+abbrev pub done : ℕ → Answer ℕ
+done fault = answered fault 0
+
+-- a value that goes to a lent place leaves 0 as the number
+abbrev pub status : Answer Float → Answer ℕ
+status (gives x) = gives 0
+status (refused f) = refused f
+
+-- "state and lent memory are as before": what that place holds at exit
+abbrev pub heldAfter : Answer Float → Float → Float
+heldAfter (gives x) old = x
+heldAfter (refused f) old = old
+
+-- a plane by its four numbers, in the order of the parameters
+abbrev pub planeBy : ℕ → ℕ → ℕ → ℕ → Plane
+planeBy width height stride origin = record { width = width; height = height; stride = stride; origin = origin }
+
+-- for the private functions: a number that an i64 holds
+abbrev pub Small : Answer ℕ → Type 0
+Small (gives n) = n < 2 ^ 63
+Small (refused f) = Unit {0}

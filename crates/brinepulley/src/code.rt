@@ -1,0 +1,39 @@
+// The i64 that a C function returns: a number at or above 0, or a refusal's number negated.
+ghost use mathlib.Core.Path.{_≡_};
+ghost use lib.IntN.{pos, negℤ};
+ghost use Rattle.answer.specs.Answer.{wholeAnswer, realAnswer};
+ghost use Rattle.brinepulley.specs.Coded.{coded, status, heldAfter, Small};
+use answer::Real;
+use answer::Whole;
+
+// A refusal's number, negated; 0 for none.
+pub fn negated(fault: u32) -> i64
+    ensures { λ r. ⌜ r ≡ negℤ (pos fault) ⌝ }
+{
+    0 - (fault as i64)
+}
+
+// A whole number as it is, or the refusal negated.
+pub fn whole(answer: Whole) -> i64
+    requires { ⌜ Small (wholeAnswer answer) ⌝ }
+    ensures { λ r. ⌜ r ≡ coded (wholeAnswer answer) ⌝ }
+{
+    match answer {
+        Whole::Number(n) => n as i64,
+        Whole::Refused(fault) => negated(fault),
+    }
+}
+
+// A float to its lent place, and 0; or the refusal negated, and the place as it was.
+pub fn put(answer: Real, place: &mut f64) -> i64
+    ensures { λ r. ⌜ r ≡ coded (status (realAnswer answer)) ⌝ }
+    ensures { λ r. ⌜ now (place .exit) ≡ heldAfter (realAnswer answer) (now (place .entry)) ⌝ }
+{
+    match answer {
+        Real::Number(x) => {
+            *place = x;
+            0
+        }
+        Real::Refused(fault) => negated(fault),
+    }
+}
