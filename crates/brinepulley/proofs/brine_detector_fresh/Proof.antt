@@ -1,30 +1,31 @@
-use borrow.Author.Needs.{needs}
+-- `brinepulley::brine_detector_fresh` meets its contract: the refusal's number is negated, and the scores are not touched. Assumes nothing.
+use mathlib.Core.Path.{refl, ap, _∙_}
+use Prim.Native.Nat.{ℕ}
+use borrow.Author.Needs.{needs, sfits-of}
+use lib.IntN.{pos, negℤ}
+use mir.Facts.{toZ-ofZ}
+use Rattle.brinepulley.proofs.Numbers.{done-coded}
 use Rattle.brinepulley.proofs.brine_detector_fresh.Statement.{statement}
 use Rattle.brinepulley.proofs.brine_detector_fresh.Tie as tie
-use Rattle.brinepulley.proofs.brine_detector_fresh.Reads as reads
-use Rattle.brinepulley.proofs.brine_detector_fresh.Lts as lts
-use Rattle.brinepulley.proofs.code.negated.Reads as negated-reads
-use Rattle.lent.proofs.fresh.Reads as fresh-reads
 
--- src/lib.rt:259:19
 fresh-requires : tie.Need-fresh-requires
 fresh-requires c κs = search needs
 
--- src/lib.rt:259:5
 negated-requires : tie.Need-negated-requires
 negated-requires c κs = search needs
 
--- src/lib.rt:234:1
 same-length : tie.Need-same-length
 same-length c = search needs
 
--- src/lib.rt:234:1
 same-length-2 : tie.Need-same-length-2
 same-length-2 c = search needs
 
--- src/lib.rt:234:1
 returns : tie.Need-returns
-returns c = ?
+returns c =
+    let e = c .before .before .before .fresh .ensures in (
+      toZ-ofZ (sfits-of (c .negated .ok)) ∙ c .negated .ensures ∙ ap (λ (f : ℕ). negℤ (pos f)) (e .0) ∙ done-coded _,
+      (e .1, refl),
+    )
 
 pub brine-detector-fresh-spec : {M : Type 1} → statement M
 brine-detector-fresh-spec =
