@@ -46,10 +46,10 @@ by-test (r ∷ rows) t (suc k) h = by-test rows (and-both (same (r .given) (r .s
 
 tested : allSame starred ≡ true
 unfolding
-  starred allSame answered _orElse_ sumBelow table badSide badShape pastSamples sizesDiffer planeFault sizesFault depthFault pairFault sizeFault
-  factorBy scaleOf sumZ sign output transformed pow one ones satdValue importanceTotal isScaled fastThreshold importanceThreshold settingsFault anyOf
-  countOf walkBack backwardOf cutOf stateFault numberFault lengthFault stopFault listsFault stepFault acceptedOf stepOf ofBits toBits ofInt sub
-  mul div lt le eq
+    starred allSame answered _orElse_ sumBelow table badSide badShape pastSamples sizesDiffer planeFault sizesFault depthFault pairFault sizeFault
+    factorBy scaleOf sumZ sign output transformed pow one ones satdValue importanceTotal isScaled fastThreshold importanceThreshold settingsFault anyOf
+    countOf walkBack backwardOf cutOf stateFault numberFault lengthFault stopFault listsFault stepFault acceptedOf stepOf ofBits toBits ofInt sub
+    mul div lt le eq
 tested = refl
 
 pub starred-hold : Holds starred
