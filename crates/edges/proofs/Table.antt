@@ -33,8 +33,8 @@ use Rattle.edges.specs.Starred.{starred}
 
 same-value : (a b : Value) → same a b ≡ true → a ≡ b
 same-value a b e =
-    let w = and-both (eqb (a .kind) (b .kind)) (eqb (a .number) (b .number)) e in
-    rw (eqb-true (a .kind) (b .kind) (w .0), eqb-true (a .number) (b .number) (w .1))
+    let w = and-both (eqb (a .kind) (b .kind)) (eqb (a .code) (b .code)) e in
+    rw (eqb-true (a .kind) (b .kind) (w .0), eqb-true (a .code) (b .code) (w .1))
 
 pub by-test : (rows : List Row) → allSame rows ≡ true → Holds rows
 unfolding allSame
