@@ -33,8 +33,8 @@ use Rattle.edges.specs.Starred.{starred}
 
 same-value : (a b : Value) → same a b ≡ true → a ≡ b
 same-value a b e =
-    let w = and-both (eqb (a .kind) (b .kind)) (eqb (a .number) (b .number)) e in
-    rw (eqb-true (a .kind) (b .kind) (w .0), eqb-true (a .number) (b .number) (w .1))
+    let w = and-both (eqb (a .kind) (b .kind)) (eqb (a .code) (b .code)) e in
+    rw (eqb-true (a .kind) (b .kind) (w .0), eqb-true (a .code) (b .code) (w .1))
 
 pub by-test : (rows : List Row) → allSame rows ≡ true → Holds rows
 unfolding allSame
@@ -46,10 +46,10 @@ by-test (r ∷ rows) t (suc k) h = by-test rows (and-both (same (r .given) (r .s
 
 tested : allSame starred ≡ true
 unfolding
-  starred allSame answered _orElse_ sumBelow table badSide badShape pastSamples sizesDiffer planeFault sizesFault depthFault pairFault sizeFault
-  factorBy scaleOf sumZ sign output transformed pow one ones satdValue importanceTotal isScaled fastThreshold importanceThreshold settingsFault anyOf
-  countOf walkBack backwardOf cutOf stateFault numberFault lengthFault stopFault listsFault stepFault acceptedOf stepOf ofBits toBits ofInt sub
-  mul div lt le eq
+    starred allSame answered _orElse_ sumBelow table badSide badShape pastSamples sizesDiffer planeFault sizesFault depthFault pairFault sizeFault
+    factorBy scaleOf sumZ sign output transformed pow one ones satdValue importanceTotal isScaled fastThreshold importanceThreshold settingsFault anyOf
+    countOf walkBack backwardOf cutOf stateFault numberFault lengthFault stopFault listsFault stepFault acceptedOf stepOf ofBits toBits ofInt sub
+    mul div lt le eq
 tested = refl
 
 pub starred-hold : Holds starred

@@ -11,17 +11,17 @@ use Rattle.answer.specs.Answer.{Answer, gives, refused}
 use Rattle.score.specs.declared.ScenecutResult.{ScenecutResult}
 use Rattle.detector.specs.Step.{Verdict}
 
--- a value: of what kind, and its number
+-- a value: of what kind, and its code
 pub record Value : Type 0 where
   pub kind : ℕ
-  pub number : ℕ
+  pub code : ℕ
 
 abbrev valueOf : ℕ → ℕ → Value
-valueOf kind number = record { kind = kind; number = number }
+valueOf kind code = record { kind = kind; code = code }
 
 -- a whole number, a float by its bits, a yes or no, the number of a refusal, and nothing
-abbrev pub whole : ℕ → Value
-whole n = valueOf 0 n
+abbrev pub number : ℕ → Value
+number n = valueOf 0 n
 
 abbrev pub bits : ℕ → Value
 bits n = valueOf 1 n
@@ -32,7 +32,7 @@ truth b = valueOf 2 (cond b 1 0)
 abbrev pub fault : ℕ → Value
 fault f = valueOf 3 f
 
-abbrev pub missing : Value
+abbrev missing : Value
 missing = valueOf 4 0
 
 pub record Row : Type 0 where
@@ -48,21 +48,21 @@ abbrev pub ofAnswer : {A : Type 0} → (A → Value) → Answer A → Value
 ofAnswer value (gives a) = value a
 ofAnswer value (refused f) = fault f
 
-abbrev pub ofScore : (ScenecutResult → Value) → Option ScenecutResult → Value
+abbrev ofScore : (ScenecutResult → Value) → Option ScenecutResult → Value
 ofScore value none = missing
 ofScore value (some e) = value e
 
 -- whether a verdict is a cut, and a number of its score
-abbrev pub cutOf : Answer Verdict → Value
-cutOf = ofAnswer (λ (v : Verdict). truth (v .cut))
+abbrev pub cutValue : Answer Verdict → Value
+cutValue = ofAnswer (λ (v : Verdict). truth (v .cut))
 
-abbrev pub scoreOf : (ScenecutResult → Float) → Answer Verdict → Value
-scoreOf part = ofAnswer (λ (v : Verdict). ofScore (λ (e : ScenecutResult). realOf (part e)) (v .score))
+abbrev pub scoreValue : (ScenecutResult → Float) → Answer Verdict → Value
+scoreValue part = ofAnswer (λ (v : Verdict). ofScore (λ (e : ScenecutResult). realOf (part e)) (v .score))
 
 -- ---- the test
 
 abbrev pub same : Value → Value → Bool
-same a b = eqb (a .kind) (b .kind) && eqb (a .number) (b .number)
+same a b = eqb (a .kind) (b .kind) && eqb (a .code) (b .code)
 
 unfoldable pub allSame : List Row → Bool
 allSame [] = true
@@ -70,7 +70,7 @@ allSame (r ∷ rs) = same (r .given) (r .said) && allSame rs
 
 -- ---- what the test says of each row
 
-pub emptyRow : Row
+abbrev emptyRow : Row
 emptyRow = record { given = missing; said = missing }
 
 abbrev pub Holds : List Row → Type 0

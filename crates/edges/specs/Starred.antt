@@ -1,7 +1,7 @@
 -- Document 01, "Values at the edges": "Starred ones are proved. In the lookahead 4 cases the distance lies at or above min and below max."
 -- Each row: what the definitions give that the code is proved equal to, and what document 01 says.
 use mathlib.Core.List.{List, [], _∷_}
-use mathlib.Core.Bool.{Bool, true, false}
+use mathlib.Core.Bool.{true, false}
 use Prim.Native.Nat.{ℕ, _*_}
 use lib.IntN.{pos}
 use lib.ListN.{length, drop, getD, replicate}
@@ -18,10 +18,10 @@ use Rattle.score.specs.declared.ScenecutResult.{ScenecutResult}
 use Rattle.score.specs.Deque.{noScore, scoreFrom}
 use Rattle.score.specs.Search.{countOf}
 use Rattle.score.specs.Cut.{over, reached}
-use Rattle.refusals.specs.State.{View, call}
+use Rattle.refusals.specs.State.{call}
 use Rattle.detector.specs.Fresh.{freshView}
 use Rattle.detector.specs.Step.{Outcome, stepOf}
-use Rattle.edges.specs.Rows.{Value, whole, truth, Row, realOf, ofAnswer, cutOf, scoreOf}
+use Rattle.edges.specs.Rows.{Value, number, truth, Row, realOf, ofAnswer, cutValue, scoreValue}
 
 infix 10 _is_
 abbrev _is_ : Value → Value → Row
@@ -47,16 +47,16 @@ abbrev first : ℕ → ℕ → List ℕ
 first x y = x ∷ replicate 63 y
 
 abbrev smallEdge : ℕ → Value
-smallEdge edge = ofAnswer whole (factorAnswer edge 4000 modeFast)
+smallEdge edge = ofAnswer number (factorAnswer edge 4000 modeFast)
 
 abbrev importance : ℕ → Answer Float
 importance other = importanceOf depth block (flat 0) block (flat other)
 
 abbrev roundedMean : ℕ → Value
-roundedMean sum = whole (mean (blockSum block (first sum 0) 0 0))
+roundedMean sum = number (mean (blockSum block (first sum 0) 0 0))
 
 abbrev satd : List ℕ → Value
-satd samples = ofAnswer whole (satdOf samples (flat 128))
+satd samples = ofAnswer number (satdOf samples (flat 128))
 
 -- ---- the step
 
@@ -91,32 +91,32 @@ fastOnce = stepOf (freshView (settings 4 modeFast 0 100)) (call 2 5 4 (real 20 �
 unfoldable pub starred : List Row
 starred =
     -- "Small edge 240 none", which is 1; "1600 gives 16", "1601 gives 32"
-    (smallEdge 240 is whole 1)
-    ∷ (smallEdge 1600 is whole 16)
-    ∷ (smallEdge 1601 is whole 32)
+    (smallEdge 240 is number 1)
+    ∷ (smallEdge 1600 is number 16)
+    ∷ (smallEdge 1601 is number 32)
     -- "Block of 0 against block of 7: importance 7, reached. Against 6: not."
     ∷ (ofAnswer realOf (importance 7) is realOf (real 7))
     ∷ (isReached (importance 7) is truth true)
     ∷ (isReached (importance 6) is truth false)
     -- "Block sum 31 rounds to 0, 32 to 1."
-    ∷ (roundedMean 31 is whole 0)
-    ∷ (roundedMean 32 is whole 1)
+    ∷ (roundedMean 31 is number 0)
+    ∷ (roundedMean 32 is number 1)
     -- "Block all 128: SATD 0. All 0: 1,024. All 255: 1,016. One 129 among 128: 8."
-    ∷ (satd (flat 128) is whole 0)
-    ∷ (satd (flat 0) is whole 1024)
-    ∷ (satd (flat 255) is whole 1016)
-    ∷ (satd (first 129 128) is whole 8)
+    ∷ (satd (flat 128) is number 0)
+    ∷ (satd (flat 0) is number 1024)
+    ∷ (satd (flat 255) is number 1016)
+    ∷ (satd (first 129 128) is number 8)
     -- "None mode, lookahead 0, L 1, min 5, max 3: distance 4 no cut, distance 5 cut."
-    ∷ (cutOf (noneAt 5 .answer) is truth false)
-    ∷ (cutOf (noneAt 4 .answer) is truth true)
+    ∷ (cutValue (noneAt 5 .answer) is truth false)
+    ∷ (cutValue (noneAt 4 .answer) is truth true)
     -- "Lookahead 4, Standard, L 2, inter 1000, importance 50, threshold 10: forward stays 0, no cut. Threshold 0: cut."
-    ∷ (scoreOf (λ (e : ScenecutResult). e .«forward_adjusted_cost») (standardAt 10 .answer) is realOf (real 0))
-    ∷ (cutOf (standardAt 10 .answer) is truth false)
-    ∷ (cutOf (standardAt 0 .answer) is truth true)
+    ∷ (scoreValue (λ (e : ScenecutResult). e .«forward_adjusted_cost») (standardAt 10 .answer) is realOf (real 0))
+    ∷ (cutValue (standardAt 10 .answer) is truth false)
+    ∷ (cutValue (standardAt 0 .answer) is truth true)
     -- "Lookahead 4, Fast unscaled, first call, L 2, delta 20: the pair stands twice, one over behind, no cut."
-    ∷ (whole (length (fastOnce .state .entries)) is whole 2)
+    ∷ (number (length (fastOnce .state .entries)) is number 2)
     ∷ (realOf (getD (fastOnce .state .entries) 0 noScore .«inter_cost») is realOf (real 20))
     ∷ (realOf (getD (fastOnce .state .entries) 1 noScore .«inter_cost») is realOf (real 20))
-    ∷ (whole (countOf (over false) (drop 1 (fastOnce .state .entries))) is whole 1)
-    ∷ (cutOf (fastOnce .answer) is truth false)
+    ∷ (number (countOf (over false) (drop 1 (fastOnce .state .entries))) is number 1)
+    ∷ (cutValue (fastOnce .answer) is truth false)
     ∷ []

@@ -1,22 +1,22 @@
 -- Scoring a pair turns the closed form of a history into that of the history with this pair, and the first entries of the closed form
 -- depend on the newest pairs alone. No law of floats is used.
 -- Assumes nothing.
-use mathlib.Core.Path.{_≡_, refl, sym, _∙_, ap}
+use mathlib.Core.Path.{_≡_, refl, sym, ap}
 use mathlib.Core.Bool.{Bool, true, false, cond}
 use mathlib.Core.List.{List, [], _∷_, _++_, map}
 use Prim.Native.Nat.{ℕ, zero, suc, _+_, _-_, _≤_, min}
 use native.Mathlib.Omega.{arith}
 use lib.Dec.{ltb}
-use lib.ListN.{length, take, length-take, length-append}
+use lib.ListN.{length, take, length-append}
 use lib.Seq.{take-all, take-take, take-append-le}
 use lib.Ieee.{Float}
 use borrow.Author.Tests.{ltb-true, ltb-false}
 use Rattle.score.specs.declared.ScenecutResult.{ScenecutResult}
 use Rattle.score.specs.declared.Measure.{Measure}
 use Rattle.score.specs.Deque.{trimmedTo}
-use Rattle.score.specs.Scores.{zeroF, maxF, walkBack, backwardOf, backOf, forwardOf, withForward, updatedFrom, updatedOf, standardScore, scoreOf}
+use Rattle.score.specs.Scores.{zeroF, backwardOf, forwardOf, withForward, updatedFrom, updatedOf, scoreOf}
 use Rattle.score.proofs.Update.{update-take}
-use Rattle.meeting.specs.History.{reach, kept, Item, cost, history, forwardFrom, entryOf, entriesOf}
+use Rattle.meeting.specs.History.{reach, Item, cost, history, forwardFrom, entryOf, entriesOf}
 
 abbrev inter : ScenecutResult → Float
 inter e = e .«inter_cost»

@@ -2,19 +2,21 @@
 -- mode, and both runs have scored those. The statements stand in specs/Meeting.antt.
 -- Assumes nothing.
 use mathlib.Core.Path.{_≡_, refl, sym, subst, _∙_, ap}
-use mathlib.Core.Bool.{Bool, true, false, cond}
+use mathlib.Core.Bool.{Bool, true, false}
 use mathlib.Core.List.{List, [], _∷_}
-use Prim.Native.Nat.{ℕ, zero, suc, _+_, _-_, _≤_, _<_}
+use Prim.Native.Nat.{ℕ, zero, suc, _+_, _-_, _≤_}
 use native.Mathlib.Omega.{arith}
+use lib.Ieee.{Float}
 use lib.ListN.{take}
 use Rattle.settings.specs.declared.Settings.{Settings}
 use Rattle.settings.specs.Settings.{isFast, fastThreshold}
-use Rattle.refusals.specs.State.{View, Call, view}
+use Rattle.refusals.specs.State.{View, Call, call, view}
+use Rattle.refusals.specs.Refusals.{listsFault, stepFault}
 use Rattle.refusals.specs.declared.State.{State}
 use Rattle.refusals.proofs.Fine.{fine}
 use Rattle.refusals.proofs.Tests.{positive}
 use Rattle.detector.specs.declared.Stepped.{Stepped}
-use Rattle.detector.specs.Step.{Outcome, stepAnswer, outcome, stepOf}
+use Rattle.detector.specs.Step.{Outcome, stepAnswer, outcome, acceptedOf, stepOf}
 use Rattle.detector.proofs.Views.{Alike, step-blind}
 use Rattle.meeting.specs.Films.{Film, callAt, runFrom, answersTo, stateAfter, compared}
 use Rattle.meeting.specs.Meeting.{Suits, Accepted, callsToMeet, Meeting, SameAnswers, Acceptance, Demand3}
@@ -111,3 +113,9 @@ begins f g a j t =
 pub demand3 : Demand3
 demand3 f g suits a s j h k t cs =
     same-answers (runFrom f g a (s - a + j)) (runFrom f g s j) cs (meeting f g suits a s j h k t (acceptance f g suits a s j h t))
+
+-- In Fast mode a list that is not read may be anything: the calls of two runs need agree in the inter costs alone.
+pub unread-blind : (s : View) (long n p : ℕ) (ds is ts is′ ts′ : List Float) → isFast (s .settings) ≡ true
+    → stepOf s (call long n p ds is ts) ≡ stepOf s (call long n p ds is′ ts′)
+unfolding stepOf acceptedOf stepFault listsFault
+unread-blind s long n p ds is ts is′ ts′ e = rw e

@@ -3,12 +3,12 @@
 use mathlib.Core.Path.{_≡_, refl, sym, _∙_, ap}
 use mathlib.Core.Bool.{Bool, true, false, cond}
 use mathlib.Core.List.{List, [], _∷_}
-use Prim.Native.Nat.{ℕ, zero, suc, _+_, _-_, _≤_, _<_, min}
+use Prim.Native.Nat.{ℕ, zero, suc, _+_, _-_, _≤_, _<_}
 use native.Mathlib.Nat.{add-zero}
 use native.Mathlib.Omega.{arith}
-use lib.Dec.{eqb, ltb, leb}
+use lib.Dec.{ltb, leb}
 use lib.ListN.{length, take, length-take}
-use lib.Seq.{take-all, take-take}
+use lib.Seq.{take-take}
 use lib.Ieee.{Float, nan}
 use borrow.Author.Tests.{lt-ltb, le-leb, lt-leb, ne-eqb}
 use Rattle.sums.proofs.TableLaws.{table-at}
@@ -25,7 +25,7 @@ use Rattle.detector.specs.Fresh.{freshView}
 use Rattle.detector.proofs.Views.{fault-blind, step-blind}
 use Rattle.meeting.specs.Films.{Film, callAt, runFrom, compared}
 use Rattle.meeting.specs.Meeting.{Suits, fullSet, Accepted}
-use Rattle.meeting.specs.History.{reach, kept, Item, history, entriesOf, closedEntries, closedState}
+use Rattle.meeting.specs.History.{reach, kept, Item, history, entriesOf, closedState}
 use Rattle.meeting.proofs.Closed.{score-entries, score-take, entries-long, trim, history-long}
 
 -- rules 4 to 7, for a call that is not refused, with a set longer than A

@@ -17,9 +17,8 @@ use Rattle.refusals.proofs.Tests.{or-left, or-right}
 use Rattle.refusals.proofs.Fine.{fine}
 use Rattle.detector.specs.Fresh.{freshView}
 use Rattle.detector.proofs.Reach.{step-passes, fresh-passes}
-use Rattle.meeting.specs.Films.{Film, callAt, runFrom, compared}
+use Rattle.meeting.specs.Films.{Film, callAt, runFrom}
 use Rattle.meeting.specs.Meeting.{Suits, fullSet, Accepted}
-use Rattle.meeting.specs.History.{closedState}
 use Rattle.meeting.proofs.Settle.{shorter, run-closed}
 
 -- no refusal applies

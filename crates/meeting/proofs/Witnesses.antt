@@ -1,12 +1,13 @@
 -- The hypotheses of specs/Meeting.antt hold of a film, in Standard mode and in Fast: computed, call by call.
 -- Assumes nothing.
 use mathlib.Core.Path.{_≡_, refl}
-use mathlib.Core.Bool.{Bool, true, false, _&&_}
+use mathlib.Core.Bool.{Bool, true, false, _&&_, _||_, cond}
 use Prim.Native.Nat.{ℕ, zero, suc, _+_, _-_, _≤_, _<_}
 use native.Mathlib.Nat.{add-suc}
 use native.Mathlib.Omega.{arith}
 use lib.Dec.{eqb, leb, ltb}
-use lib.Ieee.{ofBits, ofInt, sub, mul, div, lt, le, eq}
+use lib.IntN.{pos}
+use lib.Ieee.{Float, binary64, ofBits, ofInt, sub, mul, div, lt, le, eq}
 use borrow.Author.Tests.{leb-true, eqb-true, ltb-true, ltb-false}
 use Rattle.answer.specs.Refusal.{_orElse_}
 use Rattle.answer.specs.Answer.{answered}
@@ -14,19 +15,50 @@ use Rattle.sums.specs.Table.{table}
 use Rattle.plane.specs.Planes.{badSide, depthFault}
 use Rattle.scale.specs.Scale.{sizeFault, factorBy, scaleOf, modeFast, modeStandard}
 use Rattle.settings.specs.declared.Settings.{Settings}
-use Rattle.settings.specs.Settings.{isFast, isScaled, fastThreshold, settingsFault}
+use Rattle.settings.specs.Settings.{normalLookahead, isFast, isScaled, fastThreshold, settingsFault}
+use Rattle.score.specs.declared.Measure.{Measure}
 use Rattle.score.specs.Search.{anyOf}
 use Rattle.score.specs.Scores.{walkBack, backwardOf}
+use Rattle.refusals.specs.State.{View}
 use Rattle.refusals.specs.Refusals.{stateFault, numberFault, lengthFault, stopFault, listsFault, stepFault}
 use Rattle.refusals.proofs.Tests.{and-both}
 use Rattle.detector.specs.Fresh.{freshView}
 use Rattle.detector.specs.Step.{acceptedOf, stepOf}
 use Rattle.meeting.specs.Films.{Film, callAt, runFrom, compared}
 use Rattle.meeting.specs.Meeting.{Suits, fullSet, Accepted, callsToMeet}
-use Rattle.meeting.specs.Witness.{evenFilm, plainSettings, allAccepted}
 use Rattle.meeting.proofs.Meets.{meeting, acceptance}
 
--- from the test to the statement
+-- ---- a film with sets of seven frames, every pair alike but two
+
+abbrev whole : ℕ → Float
+whole n = ofInt binary64 (pos n)
+
+-- inter costs 0 except pairs 1 and 6, which are 1
+abbrev pairOf : ℕ → Measure
+pairOf q = record { inter = cond (eqb q 1 || eqb q 6) (whole 1) (whole 0); importance = whole 0; threshold = whole 0 }
+
+abbrev evenFilm : Film
+evenFilm = record { pairs = pairOf; lengths = λ n. fullSet; keys = λ n. 0 }
+
+abbrev plainSettings : ℕ → Settings
+plainSettings mode = record {
+  width = 64;
+  height = 64;
+  «bit_depth» = 8;
+  «lookahead_distance» = normalLookahead;
+  mode = mode;
+  «min_key_frame_interval» = 0;
+  «max_key_frame_interval» = 100;
+}
+
+-- the calls from n on, given to a state, are accepted with full sets
+unfoldable allAccepted : Film → View → ℕ → ℕ → Bool
+allAccepted f s n zero = true
+allAccepted f s n (suc j) =
+    (leb fullSet (f .lengths n) && eqb (stepFault s (callAt f n)) 0) && allAccepted f (stepOf s (callAt f n) .state) (suc n) j
+
+-- ---- from the test to the statement
+
 record At (f : Film) (g : Settings) (a k : ℕ) : Type 0 where
   long : fullSet ≤ f .lengths (a + k)
   fine : stepFault (runFrom f g a k) (callAt f (a + k)) ≡ 0

@@ -17,7 +17,7 @@ pub record Film : Type 0 where
   pub keys : ℕ → ℕ
 
 -- call n of a film: "Item k of a list is pair n + k", "each list has L − 1 items"
-abbrev pub listAt : Film → (Measure → Float) → ℕ → List Float
+abbrev listAt : Film → (Measure → Float) → ℕ → List Float
 listAt f part n = table (f .lengths n - 1) (λ (k : ℕ). part (f .pairs (n + k)))
 
 abbrev pub callAt : Film → ℕ → Call

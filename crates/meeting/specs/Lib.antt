@@ -1,4 +1,3 @@
 pub mod Films
 pub mod Meeting
 pub mod History
-pub mod Witness
