@@ -26,6 +26,10 @@ use Rattle.brinepulley.proofs.brine_hadamard8x8.Kinds as hadamard8x8-ki
 use Rattle.brinepulley.proofs.brine_hadamard8x8.Reads as hadamard8x8-reads
 use Rattle.brinepulley.proofs.brine_satd8x8.Kinds as satd8x8-kinds
 use Rattle.brinepulley.proofs.brine_satd8x8.Reads as satd8x8-reads
+use Rattle.brinepulley.proofs.brine_detector_fresh.Kinds as detector-fresh-kinds
+use Rattle.brinepulley.proofs.brine_detector_fresh.Reads as detector-fresh-reads
+use Rattle.brinepulley.proofs.brine_detector_step.Kinds as detector-step-kinds
+use Rattle.brinepulley.proofs.brine_detector_step.Reads as detector-step-reads
 
 -- two outcomes that are both the number c and the place's content x
 same : {A : Type 0} {c : ℤ} {x : A} (r r′ : ℤ) (y y′ : A) → (r ≡ c) × (y ≡ x) → (r′ ≡ c) × (y′ ≡ x) → _≡_ {A = ℤ × A} (r, y) (r′, y′)
@@ -73,10 +77,22 @@ hadamard8x8-unique κs a r r′ e e′ p q = same r r′ (now (e .0)) (now (e′
 
 -- ---- two lent places are written
 
+both : {A B : Type 0} {c : ℤ} {x : A} {y : B} (r r′ : ℤ) (a a′ : A) (b b′ : B)
+    → (r ≡ c) × ((a ≡ x) × (b ≡ y)) → (r′ ≡ c) × ((a′ ≡ x) × (b′ ≡ y)) → _≡_ {A = ℤ × A × B} (r, a, b) (r′, a′, b′)
+both r r′ a a′ b b′ p q =
+    let numbers : r ≡ r′ = p .0 ∙ sym (q .0) in
+    let firsts : a ≡ a′ = p .1 .0 ∙ sym (q .1 .0) in
+    let seconds : b ≡ b′ = p .1 .1 ∙ sym (q .1 .1) in
+    rw (numbers, firsts, seconds)
+
 pub intra-costs-unique : OneOutcome 3 intra-costs-kinds.ps intra-costs-kinds.r (ℤ × List ℕ × List ℕ) (λ κs r e. (r, now (e .1 .1 .1 .1 .1 .1 .0), now (e .1 .1 .1 .1 .1 .1 .1 .1 .1 .1 .1 .0))) intra-costs-reads.Post
 unfolding OneOutcome
-intra-costs-unique κs a r r′ e e′ p q =
-    let answers : r ≡ r′ = p .0 ∙ sym (q .0) in
-    let works : now (e .1 .1 .1 .1 .1 .1 .0) ≡ now (e′ .1 .1 .1 .1 .1 .1 .0) = p .1 .0 ∙ sym (q .1 .0) in
-    let lists : now (e .1 .1 .1 .1 .1 .1 .1 .1 .1 .1 .1 .0) ≡ now (e′ .1 .1 .1 .1 .1 .1 .1 .1 .1 .1 .1 .0) = p .1 .1 ∙ sym (q .1 .1) in
-    rw (answers, works, lists)
+intra-costs-unique κs a r r′ e e′ p q = both r r′ (now (e .1 .1 .1 .1 .1 .1 .0)) (now (e′ .1 .1 .1 .1 .1 .1 .0)) (now (e .1 .1 .1 .1 .1 .1 .1 .1 .1 .1 .1 .0)) (now (e′ .1 .1 .1 .1 .1 .1 .1 .1 .1 .1 .1 .0)) p q
+
+pub detector-fresh-unique : OneOutcome 2 detector-fresh-kinds.ps detector-fresh-kinds.r (ℤ × List ℕ × List Float) (λ κs r e. (r, now (e .1 .1 .1 .1 .1 .1 .1 .0), now (e .1 .1 .1 .1 .1 .1 .1 .1 .0))) detector-fresh-reads.Post
+unfolding OneOutcome
+detector-fresh-unique κs a r r′ e e′ p q = both r r′ (now (e .1 .1 .1 .1 .1 .1 .1 .0)) (now (e′ .1 .1 .1 .1 .1 .1 .1 .0)) (now (e .1 .1 .1 .1 .1 .1 .1 .1 .0)) (now (e′ .1 .1 .1 .1 .1 .1 .1 .1 .0)) p q
+
+pub detector-step-unique : OneOutcome 5 detector-step-kinds.ps detector-step-kinds.r (ℤ × List ℕ × List Float) (λ κs r e. (r, now (e .0), now (e .1 .0))) detector-step-reads.Post
+unfolding OneOutcome
+detector-step-unique κs a r r′ e e′ p q = both r r′ (now (e .0)) (now (e′ .0)) (now (e .1 .0)) (now (e′ .1 .0)) p q

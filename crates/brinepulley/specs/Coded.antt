@@ -1,9 +1,13 @@
 -- Document 01, "Refusal numbers": what a C function returns. "each gives a whole number .., or the refusal number negated."
+use mathlib.Core.Bool.{Bool, cond}
+use mathlib.Core.Option.{Option, none, some}
 use Prim.Native.Nat.{ℕ, _<_, _^_}
 use lib.IntN.{ℤ, pos, negℤ}
 use lib.Ieee.{Float}
 use Rattle.answer.specs.Answer.{Answer, gives, refused, answered}
 use Rattle.plane.specs.declared.Plane.{Plane}
+use Rattle.score.specs.declared.ScenecutResult.{ScenecutResult}
+use Rattle.detector.specs.Step.{Verdict}
 
 abbrev pub coded : Answer ℕ → ℤ
 coded (gives n) = pos n
@@ -22,6 +26,15 @@ status (refused f) = refused f
 abbrev pub heldAfter : Answer Float → Float → Float
 heldAfter (gives x) old = x
 heldAfter (refused f) old = old
+
+-- a decision: "0 no cut and no score, 1 a cut without a score, 2 no cut with a score, 3 a cut with a score"
+abbrev decision : Bool → Option ScenecutResult → ℕ
+decision cut none = cond cut 1 0
+decision cut (some score) = cond cut 3 2
+
+abbrev pub decided : Answer Verdict → Answer ℕ
+decided (gives v) = gives (decision (v .cut) (v .score))
+decided (refused f) = refused f
 
 -- a plane by its four numbers, in the order of the parameters
 abbrev pub planeBy : ℕ → ℕ → ℕ → ℕ → Plane

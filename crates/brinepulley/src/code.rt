@@ -2,9 +2,12 @@
 ghost use mathlib.Core.Path.{_≡_};
 ghost use lib.IntN.{pos, negℤ};
 ghost use Rattle.answer.specs.Answer.{wholeAnswer, realAnswer};
-ghost use Rattle.brinepulley.specs.Coded.{coded, status, heldAfter, Small};
+ghost use Rattle.detector.specs.Step.{stepAnswer};
+ghost use Rattle.brinepulley.specs.Coded.{coded, status, heldAfter, decided, Small};
 use answer::Real;
 use answer::Whole;
+use detector::Decision;
+use detector::StepAnswer;
 
 // A refusal's number, negated; 0 for none.
 pub fn negated(fault: u32) -> i64
@@ -27,7 +30,7 @@ pub fn whole(answer: Whole) -> i64
 // A float to its lent place, and 0; or the refusal negated, and the place as it was.
 pub fn put(answer: Real, place: &mut f64) -> i64
     ensures { λ r. ⌜ r ≡ coded (status (realAnswer answer)) ⌝ }
-    ensures { λ r. ⌜ now (place .exit) ≡ heldAfter (realAnswer answer) (now (place .entry)) ⌝ }
+    ensures { λ _. ⌜ now (place .exit) ≡ heldAfter (realAnswer answer) (now (place .entry)) ⌝ }
 {
     match answer {
         Real::Number(x) => {
@@ -35,5 +38,18 @@ pub fn put(answer: Real, place: &mut f64) -> i64
             0
         }
         Real::Refused(fault) => negated(fault),
+    }
+}
+
+// A decision by its number, or the refusal negated.
+pub fn decision(answer: StepAnswer) -> i64
+    ensures { λ r. ⌜ r ≡ coded (decided (stepAnswer answer)) ⌝ }
+{
+    match answer {
+        StepAnswer::Refused(fault) => negated(fault),
+        StepAnswer::Decided(d) => match d {
+            Decision::Bare(cut) => if cut { 1 } else { 0 },
+            Decision::Scored(cut, _score) => if cut { 3 } else { 2 },
+        },
     }
 }

@@ -5,11 +5,15 @@ ghost use Rattle.hadamard.specs.Transform.{transformFault, afterTransform};
 ghost use Rattle.importance.specs.Importance.{totalOf, importanceOf};
 ghost use Rattle.intra.specs.Costs.{intraOf, workOf, costsOf};
 ghost use Rattle.intra.specs.Threshold.{thresholdOf};
+ghost use Rattle.lent.specs.Lent.{freshFault, freshNumbers, lentStep, numbersAfter, scoresAfter};
+ghost use Rattle.lent.specs.Places.{settingsBy};
+ghost use Rattle.refusals.specs.State.{call};
 ghost use Rattle.sad.specs.Difference.{differenceOf, deltaOf};
 ghost use Rattle.satd.specs.Satd.{satdOf};
 ghost use Rattle.scale.specs.Scale.{factorAnswer};
-ghost use Rattle.brinepulley.specs.Coded.{coded, done, status, heldAfter, planeBy};
+ghost use Rattle.brinepulley.specs.Coded.{coded, done, status, heldAfter, decided, planeBy};
 use plane::Plane;
+use settings::Settings;
 
 mod code;
 
@@ -102,7 +106,7 @@ pub extern "C" fn brine_delta(
     delta: &mut f64,
 ) -> i64
     ensures { λ r. ⌜ r ≡ coded (status (deltaOf depth (planeBy width height stride origin) (now (first .entry)) (planeBy width2 height2 stride2 origin2) (now (second .entry)))) ⌝ }
-    ensures { λ r. ⌜ now (delta .exit) ≡ heldAfter (deltaOf depth (planeBy width height stride origin) (now (first .entry)) (planeBy width2 height2 stride2 origin2) (now (second .entry))) (now (delta .entry)) ⌝ }
+    ensures { λ _. ⌜ now (delta .exit) ≡ heldAfter (deltaOf depth (planeBy width height stride origin) (now (first .entry)) (planeBy width2 height2 stride2 origin2) (now (second .entry))) (now (delta .entry)) ⌝ }
 {
     let p = Plane {
         width,
@@ -136,7 +140,7 @@ pub extern "C" fn brine_importance(
     importance: &mut f64,
 ) -> i64
     ensures { λ r. ⌜ r ≡ coded (status (importanceOf depth (planeBy width height stride origin) (now (first .entry)) (planeBy width2 height2 stride2 origin2) (now (second .entry)))) ⌝ }
-    ensures { λ r. ⌜ now (importance .exit) ≡ heldAfter (importanceOf depth (planeBy width height stride origin) (now (first .entry)) (planeBy width2 height2 stride2 origin2) (now (second .entry))) (now (importance .entry)) ⌝ }
+    ensures { λ _. ⌜ now (importance .exit) ≡ heldAfter (importanceOf depth (planeBy width height stride origin) (now (first .entry)) (planeBy width2 height2 stride2 origin2) (now (second .entry))) (now (importance .entry)) ⌝ }
 {
     let p = Plane {
         width,
@@ -173,8 +177,8 @@ pub extern "C" fn brine_intra_costs(
     costs: &mut [u32],
 ) -> i64
     ensures { λ r. ⌜ r ≡ coded (intraOf depth (planeBy width height stride origin) (now (samples .entry)) (planeBy width2 height2 stride2 origin2) (now (work .entry)) (now (costs .entry))) ⌝ }
-    ensures { λ r. ⌜ now (work .exit) ≡ workOf depth (planeBy width height stride origin) (now (samples .entry)) (planeBy width2 height2 stride2 origin2) (now (work .entry)) (now (costs .entry)) ⌝ }
-    ensures { λ r. ⌜ now (costs .exit) ≡ costsOf depth (planeBy width height stride origin) (now (samples .entry)) (planeBy width2 height2 stride2 origin2) (now (work .entry)) (now (costs .entry)) ⌝ }
+    ensures { λ _. ⌜ now (work .exit) ≡ workOf depth (planeBy width height stride origin) (now (samples .entry)) (planeBy width2 height2 stride2 origin2) (now (work .entry)) (now (costs .entry)) ⌝ }
+    ensures { λ _. ⌜ now (costs .exit) ≡ costsOf depth (planeBy width height stride origin) (now (samples .entry)) (planeBy width2 height2 stride2 origin2) (now (work .entry)) (now (costs .entry)) ⌝ }
 {
     let p = Plane {
         width,
@@ -195,7 +199,7 @@ pub extern "C" fn brine_intra_costs(
 #[no_mangle]
 pub extern "C" fn brine_threshold(costs: &[u32], count: usize, threshold: &mut f64) -> i64
     ensures { λ r. ⌜ r ≡ coded (status (thresholdOf (now (costs .entry)) count)) ⌝ }
-    ensures { λ r. ⌜ now (threshold .exit) ≡ heldAfter (thresholdOf (now (costs .entry)) count) (now (threshold .entry)) ⌝ }
+    ensures { λ _. ⌜ now (threshold .exit) ≡ heldAfter (thresholdOf (now (costs .entry)) count) (now (threshold .entry)) ⌝ }
 {
     code::put(intra::standard::threshold(costs, count), threshold)
 }
@@ -204,7 +208,7 @@ pub extern "C" fn brine_threshold(costs: &[u32], count: usize, threshold: &mut f
 #[no_mangle]
 pub extern "C" fn brine_hadamard4x4(list: &mut [i32]) -> i64
     ensures { λ r. ⌜ r ≡ coded (done (transformFault 4 (now (list .entry)))) ⌝ }
-    ensures { λ r. ⌜ now (list .exit) ≡ afterTransform 4 (now (list .entry)) ⌝ }
+    ensures { λ _. ⌜ now (list .exit) ≡ afterTransform 4 (now (list .entry)) ⌝ }
 {
     code::negated(hadamard::hadamard4x4(list))
 }
@@ -213,7 +217,7 @@ pub extern "C" fn brine_hadamard4x4(list: &mut [i32]) -> i64
 #[no_mangle]
 pub extern "C" fn brine_hadamard8x8(list: &mut [i32]) -> i64
     ensures { λ r. ⌜ r ≡ coded (done (transformFault 8 (now (list .entry)))) ⌝ }
-    ensures { λ r. ⌜ now (list .exit) ≡ afterTransform 8 (now (list .entry)) ⌝ }
+    ensures { λ _. ⌜ now (list .exit) ≡ afterTransform 8 (now (list .entry)) ⌝ }
 {
     code::negated(hadamard::hadamard8x8(list))
 }
@@ -224,4 +228,62 @@ pub extern "C" fn brine_satd8x8(first: &[u8], second: &[u8]) -> i64
     ensures { λ r. ⌜ r ≡ coded (satdOf (now (first .entry)) (now (second .entry))) ⌝ }
 {
     code::whole(satd::satd8x8(first, second))
+}
+
+// A fresh detector in its lent places: 0, and its thirteen numbers. It has no entry, so no score is written.
+#[no_mangle]
+pub extern "C" fn brine_detector_fresh(
+    width: usize,
+    height: usize,
+    depth: u32,
+    lookahead: usize,
+    mode: u32,
+    min: u64,
+    max: u64,
+    numbers: &mut [u64],
+    scores: &mut [f64],
+) -> i64
+    ensures { λ r. ⌜ r ≡ coded (done (freshFault (now (numbers .entry)) (now (scores .entry)) (settingsBy width height depth lookahead mode min max))) ⌝ }
+    ensures { λ _. ⌜ now (numbers .exit) ≡ freshNumbers (now (numbers .entry)) (now (scores .entry)) (settingsBy width height depth lookahead mode min max) ⌝ }
+    ensures { λ _. ⌜ now (scores .exit) ≡ now (scores .entry) ⌝ }
+{
+    let g = Settings {
+        width,
+        height,
+        bit_depth: depth as u64,
+        lookahead_distance: lookahead,
+        mode: mode as u64,
+        min_key_frame_interval: min,
+        max_key_frame_interval: max,
+    };
+    code::negated(lent::fresh(g, numbers, scores))
+}
+
+// The step of a detector in its lent places: what was decided, by its number. The places are as the decision leaves them.
+#[no_mangle]
+pub extern "C" fn brine_detector_step(
+    numbers: &mut [u64],
+    scores: &mut [f64],
+    set_len: usize,
+    frame: u64,
+    previous_keyframe: u64,
+    inter: &[f64],
+    importance: &[f64],
+    threshold: &[f64],
+) -> i64
+    ensures { λ r. ⌜ r ≡ coded (decided (lentStep (now (numbers .entry)) (now (scores .entry)) (call «set_len» frame «previous_keyframe» (now (inter .entry)) (now (importance .entry)) (now (threshold .entry))) .answer)) ⌝ }
+    ensures { λ _. ⌜ now (numbers .exit) ≡ numbersAfter (lentStep (now (numbers .entry)) (now (scores .entry)) (call «set_len» frame «previous_keyframe» (now (inter .entry)) (now (importance .entry)) (now (threshold .entry)))) (now (numbers .entry)) ⌝ }
+    ensures { λ _. ⌜ now (scores .exit) ≡ scoresAfter (lentStep (now (numbers .entry)) (now (scores .entry)) (call «set_len» frame «previous_keyframe» (now (inter .entry)) (now (importance .entry)) (now (threshold .entry)))) (now (scores .entry)) ⌝ }
+{
+    let answer = lent::step(
+        numbers,
+        scores,
+        set_len,
+        frame,
+        previous_keyframe,
+        inter,
+        importance,
+        threshold,
+    );
+    code::decision(answer)
 }

@@ -23,7 +23,7 @@ use Rattle.detector.proofs.runs.run.Kinds as run-kinds
 use Rattle.detector.proofs.runs.run.Reads as run-reads
 
 -- two answers with the same number and values are the same
-answer-only : (r s : StepAnswer) → stepAnswer r ≡ stepAnswer s → r ≡ s
+pub answer-only : (r s : StepAnswer) → stepAnswer r ≡ stepAnswer s → r ≡ s
 answer-only = only stepAnswer back same
   where
     decision : Verdict → Decision

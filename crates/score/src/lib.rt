@@ -56,7 +56,8 @@ impl ScenecutResult {
     }
 }
 
-fn lesser(a: usize, b: usize) -> usize
+// The lesser of two counts.
+pub fn lesser(a: usize, b: usize) -> usize
     ensures { λ r. ⌜ r ≡ min a b ⌝ }
 {
     if a <= b { a } else { b }

@@ -1,0 +1,82 @@
+-- Five doubles for each score: reading and writing one score more. Assumes nothing.
+use mathlib.Core.Path.{_≡_, refl, sym, ap, _∙_}
+use mathlib.Core.List.{List, [], _∷_, _++_, append-nil}
+use Prim.Native.Nat.{ℕ, zero, suc, _+_, _-_, _*_, _≤_, _<_, min}
+use native.Mathlib.Nat.{zero-min, suc-min-suc}
+use native.Mathlib.Numerals.{add-one}
+use native.Mathlib.Omega.{arith}
+use borrow.Rule.Slice.PartMut.{putMid}
+use lib.Ieee.{Float}
+use lib.ListN.{length, take, drop, getD, set, length-drop, drop-of-length-le}
+use lib.Seq.{take-nil, take-suc, take-suc-set, drop-drop}
+use Rattle.settings.specs.Settings.{room}
+use Rattle.score.specs.declared.ScenecutResult.{ScenecutResult}
+use Rattle.score.specs.declared.ScoreDeque.{ScoreDeque}
+use Rattle.score.specs.Deque.{noScore, content}
+use Rattle.lent.specs.Places.{scoreLong, frontScore, scoresOf, entriesOf, doubles, placed}
+
+-- ---- reading
+
+scores-long : (k : ℕ) (xs : List Float) → length (scoresOf k xs) ≡ k
+unfolding scoresOf
+scores-long zero xs = refl
+scores-long (suc k) xs = ap suc (scores-long k (drop scoreLong xs))
+
+score-at : (k i : ℕ) (xs : List Float) → i < k → getD (scoresOf k xs) i noScore ≡ frontScore (drop (i * scoreLong) xs)
+unfolding scoresOf
+score-at zero i xs h = absurd (omega arith)
+score-at (suc k) zero xs h = refl
+score-at (suc k) (suc i) xs h =
+    let e : scoreLong + i * scoreLong ≡ suc i * scoreLong = omega arith in
+    score-at k i (drop scoreLong xs) (omega arith) ∙ ap frontScore (drop-drop (i * scoreLong) scoreLong xs ∙ ap (λ (n : ℕ). drop n xs) e)
+
+-- one score more is read
+pub read-more : (out : List ScenecutResult) (xs : List Float) (i : ℕ) → length out ≡ room → i < room → take i out ≡ take i (scoresOf room xs)
+    → take (i + 1) (set out i (frontScore (drop (i * scoreLong) xs))) ≡ take (i + 1) (scoresOf room xs)
+read-more out xs i n h e =
+    let l : i < length (scoresOf room xs) = omega (arith, scores-long room xs) in
+    rw add-one
+    (take-suc-set out i (frontScore (drop (i * scoreLong) xs)) (omega arith)
+    ∙ rw (e, ← score-at room i xs h) (sym (take-suc (scoresOf room xs) i noScore l)))
+
+take-min : (c : ℕ) (l : List ScenecutResult) → take (min c (length l)) l ≡ take c l
+take-min zero l = rw zero-min
+take-min (suc c) [] = take-nil (min (suc c) 0)
+take-min (suc c) (e ∷ l) = rw suc-min-suc (ap (λ (r : List ScenecutResult). e ∷ r) (take-min c l))
+
+-- as many as there is room for are all
+pub read-all : (c : ℕ) (out : List ScenecutResult) (xs : List Float) → length out ≡ room → take (min c room) out ≡ take (min c room) (scoresOf room xs)
+    → take c out ≡ entriesOf c xs
+read-all c out xs n e =
+    let m : take (min c (length out)) out ≡ take (min c (length (scoresOf room xs))) (scoresOf room xs) = rw (n, scores-long room xs) e in
+    sym (take-min c out) ∙ m ∙ take-min c (scoresOf room xs)
+
+-- ---- writing
+
+pub placed-none : (xs : List Float) → xs ≡ placed [] xs
+unfolding placed
+placed-none xs = refl
+
+-- one score more is placed
+pub place-more : (l : List ScenecutResult) (i : ℕ) (xs : List Float) → i < length l
+    → placed (take (suc i) l) xs
+    ≡ take (i * scoreLong) (placed (take i l) xs) ++ (doubles (getD l i noScore) ++ drop scoreLong (drop (i * scoreLong) (placed (take i l) xs)))
+unfolding placed
+place-more [] i xs h = absurd (omega arith)
+place-more (e ∷ l) zero xs h = refl
+place-more (e ∷ l) (suc i) xs h =
+    let k : suc i * scoreLong ≡ suc (suc (suc (suc (suc (i * scoreLong))))) = omega arith in
+    rw k (ap (λ (r : List Float). doubles e ++ r) (place-more l i (drop scoreLong xs) (omega arith)))
+
+-- a part that runs to the end, written back
+pub put-last : (a : ℕ) (out ys : List Float) → a ≤ length out → putMid a (length out - a) out ys ≡ take a out ++ ys
+put-last a out ys h = rw (drop-of-length-le (drop a out) {i = length out - a} (omega (arith, length-drop a out)), append-nil ys)
+
+-- as many entries as a deque holds are what it holds
+take-least : (n : ℕ) (l : List ScenecutResult) → take (length (take n l)) l ≡ take n l
+take-least zero l = refl
+take-least (suc n) [] = refl
+take-least (suc n) (e ∷ l) = ap (λ (r : List ScenecutResult). e ∷ r) (take-least n l)
+
+pub take-content : (d : ScoreDeque) → take (length (content d)) (d .entries) ≡ content d
+take-content d = take-least (d .count) (d .entries)

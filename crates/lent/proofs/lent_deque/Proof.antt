@@ -1,0 +1,95 @@
+use mathlib.Core.Path.{_≡_, refl, _∙_, ap}
+use Prim.Native.Nat.{_*_, _-_, _≤_, min}
+use native.Mathlib.Omega.{arith}
+use borrow.Author.Needs.{needs}
+use lib.ListN.{length, take, drop, length-drop, length-take, length-set}
+use lib.Seq.{take-all}
+use Rattle.lent.specs.Places.{scoresOf, frontScore}
+use Rattle.lent.proofs.Scores.{read-more, read-all}
+use Rattle.lent.proofs.lent_deque.Statement.{statement}
+use Rattle.lent.proofs.lent_deque.Tie as tie
+
+abbrev Inv-loop : tie.InvT-loop
+Inv-loop scores count out₀ n i₀ out i = (i ≤ n) × ((take i (out .entries) ≡ take i (scoresOf 16 scores)) × ((length (out .entries) ≡ 16) × ((out .count ≡ count) × (n ≡ min count 16))))
+
+abbrev μ-loop : tie.MeasureT-loop
+μ-loop scores count out₀ n i₀ out i = n - i
+
+new-requires : tie.Need-new-requires Inv-loop μ-loop
+new-requires c κs = search needs
+
+lesser-requires : tie.Need-lesser-requires Inv-loop μ-loop
+lesser-requires c κs = search needs
+
+loop-holds : tie.Need-loop-holds Inv-loop μ-loop
+loop-holds c = (omega arith, (refl, (refl, (refl, c .lesser .ensures))))
+
+mul-at : tie.Need-mul-at Inv-loop μ-loop
+mul-at c = omega arith
+
+mul-front-score : tie.Need-mul-front-score Inv-loop μ-loop
+mul-front-score c = omega arith
+
+sub-front-score : tie.Need-sub-front-score Inv-loop μ-loop
+sub-front-score c = omega arith
+
+part-front-score-start : tie.Need-part-front-score-start Inv-loop μ-loop
+part-front-score-start c = omega arith
+
+part-front-score-end : tie.Need-part-front-score-end Inv-loop μ-loop
+part-front-score-end c = omega arith
+
+front-score-requires : tie.Need-front-score-requires Inv-loop μ-loop
+front-score-requires c κs = simp (length-take, length-drop) (omega arith)
+
+mul-e : tie.Need-mul-e Inv-loop μ-loop
+mul-e c = omega arith
+
+element-set-from-e : tie.Need-element-set-from-e Inv-loop μ-loop
+element-set-from-e c = omega arith
+
+add-i : tie.Need-add-i Inv-loop μ-loop
+add-i c = omega arith
+
+loop-less : tie.Need-loop-less Inv-loop μ-loop
+loop-less c = omega arith
+
+loop-again : tie.Need-loop-again Inv-loop μ-loop
+loop-again c =
+    let b = c .before .before .before in
+    let xs = b .before .before .before .before .args .scores .now in
+    let k : take (length xs - b .loop .i * 5) (drop (b .loop .i * 5) xs) ≡ drop (b .loop .i * 5) xs
+    = take-all (length xs - b .loop .i * 5) (drop (b .loop .i * 5) xs) (omega (arith, length-drop (b .loop .i * 5) xs)) in
+    let e : c .front-score .result ≡ frontScore (drop (b .loop .i * 5) xs) = c .front-score .ensures ∙ ap frontScore k in (
+      omega arith,
+      (rw e (read-more (b .loop .out .entries) xs (b .loop .i) (b .loop .inv .1 .1 .0) (omega arith) (b .loop .inv .1 .0)), (rw length-set (b .loop .inv .1 .1 .0), b .loop .inv .1 .1 .1)),
+    )
+
+returns : tie.Need-returns Inv-loop μ-loop
+returns c =
+    let b = c .before in
+    let a = b .before .before .before .before .args in
+    let i : b .loop .i ≡ min (a .count) 16 = omega arith in
+    rw (b .loop .inv .1 .1 .1 .0) (read-all (a .count) (b .loop .out .entries) (a .scores .now) (b .loop .inv .1 .1 .0) (rw i at (b .loop .inv .1 .0)))
+
+pub lent-deque-spec : {M : Type 1} → statement M
+lent-deque-spec =
+    tie.close
+    (tie.spec
+    Inv-loop
+    μ-loop
+    new-requires
+    lesser-requires
+    loop-holds
+    mul-at
+    mul-front-score
+    sub-front-score
+    part-front-score-start
+    part-front-score-end
+    front-score-requires
+    mul-e
+    element-set-from-e
+    add-i
+    loop-less
+    loop-again
+    returns)

@@ -1,0 +1,90 @@
+-- The state as a recorder lends it: 13 numbers, and five doubles for each of the deque's 16 scores.
+use mathlib.Core.List.{List, [], _∷_, _++_}
+use mathlib.Core.Bool.{Bool, _&&_}
+use Prim.Native.Nat.{ℕ, zero, suc, _*_}
+use lib.Dec.{eqb}
+use lib.Ieee.{Float, nan}
+use lib.ListN.{length, take, drop, getD}
+use Rattle.settings.specs.declared.Settings.{Settings}
+use Rattle.settings.specs.Settings.{room}
+use Rattle.score.specs.declared.ScenecutResult.{ScenecutResult}
+use Rattle.score.specs.Deque.{scoreFrom}
+use Rattle.refusals.specs.State.{View}
+
+-- ---- the sizes
+
+abbrev pub numbersLong : ℕ
+numbersLong = 13
+
+-- of these the first are the settings, which no call changes
+abbrev pub settingsLong : ℕ
+settingsLong = 7
+
+abbrev pub scoreLong : ℕ
+scoreLong = 5
+
+abbrev pub scoresLong : ℕ
+scoresLong = room * scoreLong
+
+-- "Another length is no state"
+abbrev pub isState : List ℕ → List Float → Bool
+isState ns xs = eqb (length ns) numbersLong && eqb (length xs) scoresLong
+
+-- ---- reading: width, height, depth, lookahead, mode, min, max, then offset, last number, last length, first number, release number, count
+
+abbrev pub settingsBy : ℕ → ℕ → ℕ → ℕ → ℕ → ℕ → ℕ → Settings
+settingsBy width height depth lookahead mode least most = record {
+  width = width;
+  height = height;
+  «bit_depth» = depth;
+  «lookahead_distance» = lookahead;
+  mode = mode;
+  «min_key_frame_interval» = least;
+  «max_key_frame_interval» = most;
+}
+
+abbrev pub settingsOf : List ℕ → Settings
+settingsOf ns = settingsBy (getD ns 0 0) (getD ns 1 0) (getD ns 2 0) (getD ns 3 0) (getD ns 4 0) (getD ns 5 0) (getD ns 6 0)
+
+-- the score that the first five doubles of a list are: inter, importance, backward, forward, threshold
+abbrev pub frontScore : List Float → ScenecutResult
+frontScore xs = scoreFrom (getD xs 0 nan) (getD xs 1 nan) (getD xs 2 nan) (getD xs 3 nan) (getD xs 4 nan)
+
+-- the first k scores
+unfoldable pub scoresOf : ℕ → List Float → List ScenecutResult
+scoresOf zero xs = []
+scoresOf (suc k) xs = frontScore xs ∷ scoresOf k (drop scoreLong xs)
+
+-- "slots past the count are no part of the state"
+abbrev pub entriesOf : ℕ → List Float → List ScenecutResult
+entriesOf count xs = take count (scoresOf room xs)
+
+abbrev pub stateOf : List ℕ → List Float → View
+stateOf ns xs = record {
+  settings = settingsOf ns;
+  entries = entriesOf (getD ns 12 0) xs;
+  offset = getD ns 7 0;
+  lastNumber = getD ns 8 0;
+  lastLength = getD ns 9 0;
+  firstNumber = getD ns 10 0;
+  release = getD ns 11 0;
+}
+
+-- ---- writing
+
+abbrev pub settingNumbers : Settings → List ℕ
+settingNumbers g =
+    g .width ∷ g .height ∷ g .«bit_depth» ∷ g .«lookahead_distance» ∷ g .mode ∷ g .«min_key_frame_interval» ∷ g .«max_key_frame_interval» ∷ []
+
+-- what a call may change of the numbers
+abbrev pub callNumbers : View → List ℕ
+callNumbers s = s .offset ∷ s .lastNumber ∷ s .lastLength ∷ s .firstNumber ∷ s .release ∷ length (s .entries) ∷ []
+
+abbrev pub doubles : ScenecutResult → List Float
+doubles e =
+    e .«inter_cost» ∷ e .«imp_block_cost» ∷ e .«backward_adjusted_cost» ∷ e .«forward_adjusted_cost» ∷ e .threshold ∷ []
+
+-- the entries in the first places; "places past the count unchanged"
+unfoldable pub placed : List ScenecutResult → List Float → List Float
+placed [] xs = xs
+placed (e ∷ es) xs = doubles e ++ placed es (drop scoreLong xs)

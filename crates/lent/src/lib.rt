@@ -1,0 +1,199 @@
+// The detector over lent places: its state in 13 numbers and five doubles for each of its 16 scores, as a recorder keeps it.
+ghost use mathlib.Core.Path.{_≡_};
+ghost use mathlib.Core.List.{_++_};
+ghost use Prim.Native.Nat.{_≤_};
+ghost use lib.ListN.{length, take, drop};
+ghost use Rattle.score.specs.Deque.{content};
+ghost use Rattle.refusals.specs.State.{view, call};
+ghost use Rattle.detector.specs.Step.{stepAnswer};
+ghost use Rattle.lent.specs.Places.{numbersLong, settingsLong, scoreLong, scoresLong, settingsOf, frontScore, entriesOf, stateOf, settingNumbers, callNumbers, doubles, placed};
+ghost use Rattle.lent.specs.Lent.{freshFault, freshNumbers, lentStep, numbersAfter, scoresAfter};
+use detector::Decision;
+use detector::StepAnswer;
+use refusals::State;
+use score::ScenecutResult;
+use score::ScoreDeque;
+use settings::Settings;
+
+// How many numbers a state has, how many doubles a score, and how many doubles all scores.
+const NUMBERS: usize = 13;
+
+const DOUBLES: usize = 5;
+
+const SCORES: usize = 80;
+
+// The score that the first five doubles of a part are.
+fn front_score(s: &[f64]) -> ScenecutResult
+    requires { ⌜ scoreLong ≤ length (now s) ⌝ }
+    ensures { λ r. ⌜ r ≡ frontScore (now (s .entry)) ⌝ }
+{
+    ScenecutResult::new(s[0], s[1], s[2], s[3], s[4])
+}
+
+// The deque whose entries are the first `count` scores: no place past them is read.
+fn lent_deque(scores: &[f64], count: usize) -> ScoreDeque
+    requires { ⌜ length (now scores) ≡ scoresLong ⌝ }
+    ensures { λ r. ⌜ content r ≡ entriesOf count (now (scores .entry)) ⌝ }
+{
+    let none = ScenecutResult::new(0.0, 0.0, 0.0, 0.0, 0.0);
+    let entries = [none; Settings::ROOM];
+    let mut out = ScoreDeque { entries, count };
+    let n = score::lesser(count, Settings::ROOM);
+    for i in 0..n {
+        let at = i * DOUBLES;
+        let e = front_score(&scores[at..]);
+        out.entries[i] = e;
+    }
+    out
+}
+
+fn lent_settings(numbers: &[u64]) -> Settings
+    requires { ⌜ length (now numbers) ≡ numbersLong ⌝ }
+    ensures { λ r. ⌜ r ≡ settingsOf (now (numbers .entry)) ⌝ }
+{
+    Settings {
+        width: numbers[0] as usize,
+        height: numbers[1] as usize,
+        bit_depth: numbers[2],
+        lookahead_distance: numbers[3] as usize,
+        mode: numbers[4],
+        min_key_frame_interval: numbers[5],
+        max_key_frame_interval: numbers[6],
+    }
+}
+
+fn lent_state(numbers: &[u64], scores: &[f64]) -> State
+    requires { ⌜ length (now numbers) ≡ numbersLong ⌝ }
+    requires { ⌜ length (now scores) ≡ scoresLong ⌝ }
+    ensures { λ r. ⌜ view r ≡ stateOf (now (numbers .entry)) (now (scores .entry)) ⌝ }
+{
+    let g = lent_settings(numbers);
+    let d = lent_deque(scores, numbers[12] as usize);
+    State {
+        settings: g,
+        deque: d,
+        offset: numbers[7] as usize,
+        last_number: numbers[8],
+        last_length: numbers[9] as usize,
+        first_number: numbers[10],
+        release_number: numbers[11],
+    }
+}
+
+// How many entries a deque holds.
+fn held(d: ScoreDeque) -> usize
+    ensures { λ r. ⌜ r ≡ length (content d) ⌝ }
+{
+    score::lesser(d.count, Settings::ROOM)
+}
+
+// A score in the first five places of a part.
+fn put_score(s: &mut [f64], e: ScenecutResult)
+    requires { ⌜ scoreLong ≤ length (now s) ⌝ }
+    ensures { λ _. ⌜ now (s .exit) ≡ doubles e ++ drop scoreLong (now (s .entry)) ⌝ }
+{
+    s[0] = e.inter_cost;
+    s[1] = e.imp_block_cost;
+    s[2] = e.backward_adjusted_cost;
+    s[3] = e.forward_adjusted_cost;
+    s[4] = e.threshold;
+}
+
+// The entries of a deque, each in its place.
+fn put_deque(scores: &mut [f64], d: ScoreDeque)
+    requires { ⌜ length (now scores) ≡ scoresLong ⌝ }
+    ensures { λ _. ⌜ now (scores .exit) ≡ placed (content d) (now (scores .entry)) ⌝ }
+{
+    let n = held(d);
+    for i in 0..n {
+        let at = i * DOUBLES;
+        let e = d.entries[i];
+        put_score(&mut scores[at..], e);
+    }
+}
+
+fn put_settings(numbers: &mut [u64], g: Settings)
+    requires { ⌜ length (now numbers) ≡ numbersLong ⌝ }
+    ensures { λ _. ⌜ now (numbers .exit) ≡ settingNumbers g ++ drop settingsLong (now (numbers .entry)) ⌝ }
+{
+    numbers[0] = g.width as u64;
+    numbers[1] = g.height as u64;
+    numbers[2] = g.bit_depth;
+    numbers[3] = g.lookahead_distance as u64;
+    numbers[4] = g.mode;
+    numbers[5] = g.min_key_frame_interval;
+    numbers[6] = g.max_key_frame_interval;
+}
+
+// What a call changes of the numbers.
+fn put_call(numbers: &mut [u64], s: State)
+    requires { ⌜ length (now numbers) ≡ numbersLong ⌝ }
+    ensures { λ _. ⌜ now (numbers .exit) ≡ take settingsLong (now (numbers .entry)) ++ callNumbers (view s) ⌝ }
+{
+    let n = held(s.deque);
+    numbers[7] = s.offset as u64;
+    numbers[8] = s.last_number;
+    numbers[9] = s.last_length as u64;
+    numbers[10] = s.first_number;
+    numbers[11] = s.release_number;
+    numbers[12] = n as u64;
+}
+
+// A fresh detector in its lent places: 0, or the number of the refusal, and then nothing is written. It has no entry, so no
+// score is written.
+pub fn fresh(g: Settings, numbers: &mut [u64], scores: &[f64]) -> u32
+    ensures { λ r. ⌜ r ≡ freshFault (now (numbers .entry)) (now (scores .entry)) g ⌝ }
+    ensures { λ _. ⌜ now (numbers .exit) ≡ freshNumbers (now (numbers .entry)) (now (scores .entry)) g ⌝ }
+{
+    if numbers.len() != NUMBERS {
+        return 11;
+    }
+    if scores.len() != SCORES {
+        return 11;
+    }
+    let r = detector::fresh(g);
+    let fault = r.fault;
+    if fault != 0 {
+        return fault;
+    }
+    put_settings(numbers, g);
+    let s = r.state;
+    put_call(numbers, s);
+    0
+}
+
+// The step of a detector in its lent places. A refused call writes nothing, and a decision without a score no score.
+pub fn step(
+    numbers: &mut [u64],
+    scores: &mut [f64],
+    length: usize,
+    n: u64,
+    p: u64,
+    inter: &[f64],
+    importance: &[f64],
+    threshold: &[f64],
+) -> StepAnswer
+    ensures { λ r. ⌜ stepAnswer r ≡ lentStep (now (numbers .entry)) (now (scores .entry)) (call length n p (now (inter .entry)) (now (importance .entry)) (now (threshold .entry))) .answer ⌝ }
+    ensures { λ _. ⌜ now (numbers .exit) ≡ numbersAfter (lentStep (now (numbers .entry)) (now (scores .entry)) (call length n p (now (inter .entry)) (now (importance .entry)) (now (threshold .entry)))) (now (numbers .entry)) ⌝ }
+    ensures { λ _. ⌜ now (scores .exit) ≡ scoresAfter (lentStep (now (numbers .entry)) (now (scores .entry)) (call length n p (now (inter .entry)) (now (importance .entry)) (now (threshold .entry)))) (now (scores .entry)) ⌝ }
+{
+    if numbers.len() != NUMBERS {
+        return StepAnswer::Refused(11);
+    }
+    if scores.len() != SCORES {
+        return StepAnswer::Refused(11);
+    }
+    let s = lent_state(numbers, scores);
+    let r = detector::step(s, length, n, p, inter, importance, threshold);
+    let answer = r.answer;
+    let t = r.state;
+    let StepAnswer::Decided(d) = answer else {
+        return answer;
+    };
+    put_call(numbers, t);
+    let Decision::Scored(_cut, _score) = d else {
+        return answer;
+    };
+    put_deque(scores, t.deque);
+    answer
+}
