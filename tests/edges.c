@@ -2,6 +2,7 @@
 #include "detector.h"
 
 #include <float.h>
+#include <math.h>
 #include <string.h>
 
 static void scale(void)
@@ -97,12 +98,12 @@ static void none_mode(void)
     EXPECT_NUMBER(none_at(5), 1);
 }
 
-/* Lookahead 4, Standard, L 2, inter 1000, importance 50: by the threshold. */
-static int64_t standard_at(double threshold, double *forward)
+/* Lookahead 4, Standard, L 2, inter 1000: by importance and threshold. */
+static int64_t standard_at(double importance, double threshold, double *forward)
 {
     struct detector detector;
     detector_make(&detector, STANDARD, 4);
-    const struct step step = step_of(2, 10, 4, 1000, 50, threshold);
+    const struct step step = step_of(2, 10, 4, 1000, importance, threshold);
     const int64_t answer = detector_step(&detector, &step);
     EXPECT_NUMBER((int64_t)detector.numbers[COUNT], 2);
     *forward = detector_score(&detector, detector.numbers[OFFSET], FORWARD);
@@ -112,10 +113,21 @@ static int64_t standard_at(double threshold, double *forward)
 static void standard_mode(void)
 {
     double forward = -1;
-    EXPECT_NUMBER(standard_at(10, &forward), 2);
+    EXPECT_NUMBER(standard_at(50, 10, &forward), 2);
     EXPECT_DOUBLE(forward, 0.0);
-    EXPECT_NUMBER(standard_at(0, &forward), 3);
+    EXPECT_NUMBER(standard_at(50, 0, &forward), 3);
     EXPECT_DOUBLE(forward, 0.0);
+}
+
+/* An importance of 7 reaches the bound, 6 does not; neither does the double below 7, nor a NaN. */
+static void importance_reached(void)
+{
+    double forward = -1;
+    EXPECT_NUMBER(standard_at(7, 0, &forward), 3);
+    EXPECT_NUMBER(standard_at(6, 0, &forward), 2);
+    EXPECT_NUMBER(standard_at(6.999999999999999, 0, &forward), 2);
+    EXPECT_NUMBER(standard_at(NAN, 0, &forward), 2);
+    EXPECT_NUMBER(standard_at(7, NAN, &forward), 2);
 }
 
 /* Lookahead 4, Fast unscaled, first call, L 2, delta 20. */
@@ -129,6 +141,21 @@ static void fast_mode(void)
     for (size_t entry = 0; entry < 2; entry++)
         for (size_t number = INTER; number <= THRESHOLD; number++)
             EXPECT_DOUBLE(detector_score(&detector, entry, number), number == THRESHOLD ? 18.0 : 20.0);
+}
+
+/* The same where Fast is scaled: the item scored twice has delta 0 the second time. */
+static void fast_scaled(void)
+{
+    struct detector detector;
+    detector_make(&detector, FAST, 4);
+    detector.numbers[WIDTH] = 8192;
+    detector.numbers[HEIGHT] = 241;
+    const struct step step = step_of(2, 10, 4, 20, 0, 0);
+    EXPECT_NUMBER(detector_step(&detector, &step), 2);
+    for (size_t number = INTER; number < THRESHOLD; number++) {
+        EXPECT_DOUBLE(detector_score(&detector, 0, number), 0.0);
+        EXPECT_DOUBLE(detector_score(&detector, 1, number), 20.0);
+    }
 }
 
 static void lookahead_5(void)
@@ -158,7 +185,9 @@ const struct test edge_tests[] = {
     {"edges: intra costs of the same blocks", intra},
     {"edges: None mode, distances 4 and 5", none_mode},
     {"edges: lookahead 4, Standard, thresholds 10 and 0", standard_mode},
+    {"edges: importance 7 is reached, 6 is not", importance_reached},
     {"edges: lookahead 4, Fast, the pair stands twice", fast_mode},
+    {"edges: lookahead 4, Fast scaled, 0 the second time", fast_scaled},
     {"edges: lookahead 5, L 5 and L 7", lookahead_5},
     {0},
 };

@@ -25,6 +25,7 @@ static void refuses_number(size_t place, uint64_t value)
 {
     const struct step step = next_step();
     running(STANDARD, 5);
+    memset(detector.scores + 50, 0, 30 * sizeof(double)); /* a larger count finds good entries */
     detector.numbers[place] = value;
     detector_refuses(&detector, &step, 11);
 }
