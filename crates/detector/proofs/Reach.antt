@@ -11,6 +11,7 @@ use lib.Dec.{eqb, ltb, leb}
 use lib.ListN.{length, take}
 use lib.Seq.{length-take-le}
 use Rattle.answer.specs.Answer.{Answer, gives, refused}
+use Rattle.answer.specs.Refusal.{_orElse_}
 use Rattle.settings.specs.declared.Settings.{Settings}
 use Rattle.settings.specs.Settings.{room, normalLookahead, lookaheadOffset, isNone, isFast, isScaled, fastThreshold, settingsFault}
 use Rattle.score.specs.declared.ScenecutResult.{ScenecutResult}
@@ -226,3 +227,8 @@ fresh-passes g e =
 pub reached-passes : (g : Settings) (a : Answer Verdict) (cs : List Call) → settingsFault g ≡ 0
     → stateFault (runOf (record { answer = a; state = freshView g }) cs .state) ≡ 0
 reached-passes g a cs e = run-passes (record { answer = a; state = freshView g }) cs (fresh-passes g e)
+
+-- and every step of a detector whose settings are refused is refused with 11
+pub unfit-refused : (g : Settings) (c : Call) → (settingsFault g ≡ 0 → ⊥) → stepFault (freshView g) c ≡ 11
+unfolding stepFault stateFault _orElse_
+unfit-refused g c h = rw (ne-eqb (settingsFault g) 0 h)

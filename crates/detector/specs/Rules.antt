@@ -1,4 +1,5 @@
--- Document 01, "The step", rules 3 to 7, and "Release number". Rule 1's A is `lookaheadOffset` of the settings; rule 2 stands in Step.
+-- Document 01, "The step", rules 2 to 7, and "Release number". Rule 1's A is `lookaheadOffset` of the settings. `long` stands for L, n for
+-- the frame number, o for the offset, l for the deque's entries.
 use mathlib.Core.List.{List}
 use mathlib.Core.Bool.{Bool, true, false, not, _&&_, cond}
 use Prim.Native.Nat.{ℕ, zero, suc, _+_, _-_, max}
@@ -14,10 +15,15 @@ use Rattle.score.specs.Scores.{zeroF, scoreOf}
 use Rattle.score.specs.Cut.{cutOf}
 use Rattle.refusals.specs.State.{View}
 
+-- ---- 2. "L ≤ A: no cut, no score, o and the deque unchanged."
+
+abbrev pub rule2 : Settings → ℕ → Bool
+rule2 g long = leb long (lookaheadOffset g)
+
 -- ---- 3. "None mode: cut exactly when n − p ≥ min and n − p ≥ max; no score."
 
-abbrev pub noneCut : Settings → ℕ → Bool
-noneCut g distance = leb (g .«min_key_frame_interval») distance && leb (g .«max_key_frame_interval») distance
+abbrev pub rule3 : Settings → ℕ → Bool
+rule3 g distance = leb (g .«min_key_frame_interval») distance && leb (g .«max_key_frame_interval») distance
 
 -- ---- the items of a set
 

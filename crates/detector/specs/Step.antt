@@ -2,10 +2,10 @@
 use mathlib.Core.Bool.{Bool, false, cond}
 use mathlib.Core.Option.{Option, none, some}
 use Prim.Native.Nat.{ℕ, _-_}
-use lib.Dec.{eqb, leb}
+use lib.Dec.{eqb}
 use lib.ListN.{getD}
 use Rattle.answer.specs.Answer.{Answer, gives, refused}
-use Rattle.settings.specs.Settings.{lookaheadOffset, isNone, isFast}
+use Rattle.settings.specs.Settings.{isNone, isFast}
 use Rattle.score.specs.declared.ScenecutResult.{ScenecutResult}
 use Rattle.score.specs.declared.Measure.{Measure}
 use Rattle.score.specs.Deque.{noScore}
@@ -16,7 +16,7 @@ use Rattle.detector.specs.declared.StepAnswer.{StepAnswer}
 use Rattle.detector.specs.declared.StepAnswer.the-variants.{Refused, Decided}
 use Rattle.detector.specs.declared.Decision.{Decision}
 use Rattle.detector.specs.declared.Decision.the-variants.{Bare, Scored}
-use Rattle.detector.specs.Rules.{measureOf, Turn, rule4, rule5, rule6, rule7, noneCut, nextOf}
+use Rattle.detector.specs.Rules.{measureOf, Turn, rule2, rule3, rule4, rule5, rule6, rule7, nextOf}
 
 -- ---- what the step answers, and the state beside it
 
@@ -53,11 +53,8 @@ progressOf s c =
     (rule4 (s .settings) (c .setLength) (c .number) (itemOf s c) (s .offset) (s .entries))
 
 -- a decision without a score: "o and the deque unchanged"
-abbrev pub bareOf : View → Call → Bool → Outcome
-bareOf s c cut = record {
-  answer = gives (record { cut = cut; score = none });
-  state = nextOf s (c .setLength) (c .number) (s .entries) (s .offset);
-}
+abbrev pub bareOf : View → ℕ → ℕ → Bool → Outcome
+bareOf s long n cut = record { answer = gives (record { cut = cut; score = none }); state = nextOf s long n (s .entries) (s .offset) }
 
 -- a decision with the score of entry o, and the state after rule 7
 abbrev pub scoredOf : View → Call → Turn → Outcome
@@ -66,11 +63,11 @@ scoredOf s c t = record {
   state = nextOf s (c .setLength) (c .number) (rule7 (s .settings) (t .entries)) (t .offset);
 }
 
--- 2. "L ≤ A: no cut, no score, o and the deque unchanged."; then 3, for None mode; then 4 to 7
+-- rule 2, else rule 3 in None mode, else rules 4 to 7
 unfoldable pub acceptedOf : View → Call → Outcome
 acceptedOf s c =
-    cond (leb (c .setLength) (lookaheadOffset (s .settings))) (bareOf s c false)
-    (cond (isNone (s .settings)) (bareOf s c (noneCut (s .settings) (c .number - c .keyframe)))
+    cond (rule2 (s .settings) (c .setLength)) (bareOf s (c .setLength) (c .number) false)
+    (cond (isNone (s .settings)) (bareOf s (c .setLength) (c .number) (rule3 (s .settings) (c .number - c .keyframe)))
     (scoredOf s c (progressOf s c)))
 
 -- "A refusal returns its number only; state and lent memory are as before."

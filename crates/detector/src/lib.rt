@@ -5,7 +5,7 @@ ghost use Rattle.score.specs.Deque.{content};
 ghost use Rattle.refusals.specs.State.{view, call};
 ghost use Rattle.refusals.specs.Refusals.{stepFault};
 ghost use Rattle.detector.specs.Rules.{releaseReach, releases, nextOf};
-ghost use Rattle.detector.specs.Step.{outcome, acceptedOf, stepOf};
+ghost use Rattle.detector.specs.Step.{outcome, bareOf, acceptedOf, stepOf};
 ghost use Rattle.detector.specs.Fresh.{freshView, opened, openedOf};
 use refusals::State;
 use score::ScenecutResult;
@@ -61,6 +61,7 @@ fn fresh_state(g: Settings) -> State
     }
 }
 
+// A fresh detector of the settings, or their refusal.
 pub fn fresh(g: Settings) -> Opened
     ensures { λ r. ⌜ opened r ≡ openedOf g ⌝ }
 {
@@ -119,6 +120,16 @@ fn next_state(s: State, d: ScoreDeque, o: usize, n: u64, length: usize) -> State
     }
 }
 
+// A decision without a score: the deque and the offset stay.
+fn bare(s: State, length: usize, n: u64, cut: bool) -> Stepped
+    ensures { λ r. ⌜ outcome r ≡ bareOf (view s) length n cut ⌝ }
+{
+    let d = s.deque;
+    let state = next_state(s, d, s.offset, n, length);
+    let answer = StepAnswer::Decided(Decision::Bare(cut));
+    Stepped { answer, state }
+}
+
 // Rules 2 to 7, for a call that is not refused.
 fn accepted(
     s: State,
@@ -137,16 +148,12 @@ fn accepted(
     let o = s.offset;
     let a = g.lookahead_offset();
     if length <= a {
-        let state = next_state(s, d, o, n, length);
-        let answer = StepAnswer::Decided(Decision::Bare(false));
-        return Stepped { answer, state };
+        return bare(s, length, n, false);
     }
     let distance = n - p;
     if g.mode == Settings::NONE {
         let cut = rules::none_cut(g, distance);
-        let state = next_state(s, d, o, n, length);
-        let answer = StepAnswer::Decided(Decision::Bare(cut));
-        return Stepped { answer, state };
+        return bare(s, length, n, cut);
     }
     let begun = rules::initialized(g, length, n, inter, importance, threshold, o, d);
     let q = rules::advanced(g, length, n, inter, importance, threshold, begun);

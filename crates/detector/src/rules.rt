@@ -4,7 +4,7 @@ ghost use Prim.Native.Nat.{_+_, _-_, _<_, _≤_};
 ghost use Rattle.settings.specs.Settings.{room, isFast, fastThreshold};
 ghost use Rattle.score.specs.Deque.{content, held, holding};
 ghost use Rattle.refusals.specs.Refusals.{numberLimit};
-ghost use Rattle.detector.specs.Rules.{measureOf, againOf, itemsOf, rule4, rule5, noneCut, intervalOf, rule6};
+ghost use Rattle.detector.specs.Rules.{measureOf, againOf, itemsOf, rule3, rule4, rule5, intervalOf, rule6};
 ghost use Rattle.detector.specs.Needs.{Covers, Startable, Ready, turn, turnAt};
 use score::Measure;
 use score::ScoreDeque;
@@ -164,7 +164,7 @@ pub fn advanced(
 
 // Rule 3.
 pub fn none_cut(g: Settings, distance: u64) -> bool
-    ensures { λ r. ⌜ r ≡ noneCut g distance ⌝ }
+    ensures { λ r. ⌜ r ≡ rule3 g distance ⌝ }
 {
     (g.min_key_frame_interval <= distance) & (g.max_key_frame_interval <= distance)
 }

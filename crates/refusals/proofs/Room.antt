@@ -3,7 +3,7 @@
 use mathlib.Core.Path.{_≡_, refl}
 use mathlib.Core.Bool.{Bool, true, false}
 use mathlib.Core.List.{List}
-use Prim.Native.Nat.{ℕ, _≤_, _<_, min}
+use Prim.Native.Nat.{ℕ, _-_, _≤_, _<_, min}
 use native.Mathlib.Omega.{arith}
 use borrow.Author.Tests.{ltb-true, ltb-false, lt-ltb}
 use lib.Dec.{ltb}
@@ -25,7 +25,7 @@ module _ (g : Settings) (count o : ℕ) where
   by-case true e =
       let h : room < count = ltb-true room count e in
       let n : min count room ≡ room = omega arith in
-      rw (n, lt-ltb 15 count (omega arith))
+      rw (n, lt-ltb (room - 1) count (omega arith))
   by-case false e =
       let h : count ≤ room = ltb-false room count e in
       let n : min count room ≡ count = omega arith in

@@ -12,13 +12,17 @@ use Rattle.score.specs.Search.{anyOf}
 use Rattle.score.specs.Costs.{forbidden, forbiddenEntry}
 use Rattle.refusals.specs.State.{View, Call}
 
--- the parts of 11 that look at no entry: "a state with settings that 5 or 6 forbid; over 15 entries, over 10 if A = 5; o not below
--- the count, or o not A when empty". 15 is one less than the room, and 10 is 5 + A.
+-- 11: "over 15 entries, over 10 if A = 5": 15 is one less than the room, and 10 is 5 + A
+abbrev pub tooMany : Settings → ℕ → Bool
+tooMany g count = ltb (room - 1) count || (eqb (lookaheadOffset g) normalLookahead && ltb (normalLookahead + normalLookahead) count)
+
+-- 11: "o not below the count, or o not A when empty"
+abbrev pub misplaced : Settings → ℕ → ℕ → Bool
+misplaced g count o = (eqb count 0 && not (eqb o (lookaheadOffset g))) || (not (eqb count 0) && leb count o)
+
+-- 11, but for the entries: "a state with settings that 5 or 6 forbid", too many entries, or o out of place
 abbrev pub badShape : Settings → ℕ → ℕ → Bool
-badShape g count o =
-    not (eqb (settingsFault g) 0)
-    || ((ltb (room - 1) count || (eqb (lookaheadOffset g) normalLookahead && ltb (normalLookahead + normalLookahead) count))
-    || ((eqb count 0 && not (eqb o (lookaheadOffset g))) || (not (eqb count 0) && leb count o)))
+badShape g count o = not (eqb (settingsFault g) 0) || (tooMany g count || misplaced g count o)
 
 -- 11: ".. an entry whose inter cost 10 forbids"
 unfoldable pub stateFault : View → ℕ

@@ -5,7 +5,7 @@ use mathlib.Core.Bool.{Bool, true, false}
 use mathlib.Core.List.{List}
 use mathlib.Core.Option.{some}
 use Prim.Native.Nat.{ℕ, _+_, _-_, _<_}
-use borrow.Author.Tests.{le-leb, lt-leb, ne-eqb, eqb-true}
+use borrow.Author.Tests.{le-leb, lt-leb, eq-eqb, ne-eqb, eqb-true}
 use denote.Ref.{now}
 use lib.Dec.{leb}
 use lib.ListN.{length, getD}
@@ -17,8 +17,8 @@ use Rattle.score.proofs.Room.{long-min, entries-of}
 use Rattle.refusals.specs.State.{View, Call, view, call}
 use Rattle.refusals.proofs.Room.{state-room}
 use Rattle.refusals.proofs.Fine.{Shape, Fine, fine, long}
-use Rattle.detector.specs.Step.{Outcome, itemOf, progressOf, scoredOf, acceptedOf}
-use Rattle.detector.specs.Rules.{Turn, rule5, rule6, rule7, nextOf}
+use Rattle.detector.specs.Step.{Outcome, itemOf, progressOf, bareOf, scoredOf, acceptedOf}
+use Rattle.detector.specs.Rules.{Turn, rule3, rule5, rule6, rule7, nextOf}
 use Rattle.detector.specs.Needs.{Covers, turn}
 use Rattle.detector.proofs.Starts.{lookahead-small, above, two}
 use native.Mathlib.Omega.{arith}
@@ -35,14 +35,26 @@ scored-is : (s : View) (c : Call) (t : Turn) (cut : Bool) (score : ScenecutResul
     → _≡_ {A = Outcome} (record { answer = gives (record { cut = cut; score = some score }); state = state }) (scoredOf s c t)
 scored-is s c t cut score kept state p q r e = rw (e, r, q, p)
 
--- where rules 2 and 3 do not apply
+-- rule 2, rule 3, and where neither applies
+stays : (s : View) (c : Call) → leb (c .setLength) (lookaheadOffset (s .settings)) ≡ true → acceptedOf s c ≡ bareOf s (c .setLength) (c .number) false
+unfolding acceptedOf
+stays s c k = rw k
+
+silent : (s : View) (c : Call) → leb (c .setLength) (lookaheadOffset (s .settings)) ≡ false → isNone (s .settings) ≡ true
+    → acceptedOf s c ≡ bareOf s (c .setLength) (c .number) (rule3 (s .settings) (c .number - c .keyframe))
+unfolding acceptedOf
+silent s c k m = rw (k, m)
+
 goes-on : (s : View) (c : Call) → leb (c .setLength) (lookaheadOffset (s .settings)) ≡ false → isNone (s .settings) ≡ false
     → acceptedOf s c ≡ scoredOf s c (progressOf s c)
 unfolding acceptedOf
 goes-on s c k n = rw (k, n)
 
+abbrev begin : tie.After-lookahead-offset → tie.Start
+begin c = c .before .before .before .before .before .before
+
 abbrev start : tie.Else1 → tie.Start
-start c = c .before .before .before .before .before .before .before
+start c = begin (c .before)
 
 abbrev given : tie.Start → Call
 given c = call (c .args .length) (c .args .n) (c .args .p) (now (c .args .inter)) (now (c .args .importance)) (now (c .args .threshold))
@@ -81,14 +93,15 @@ covered c =
 lookahead-offset-requires : tie.Need-lookahead-offset-requires
 lookahead-offset-requires c κs = search needs
 
-next-state-requires : tie.Need-next-state-requires
-next-state-requires c κs = search needs
+bare-requires : tie.Need-bare-requires
+bare-requires c κs = search needs
 
 returns : tie.Need-returns
-unfolding acceptedOf
 returns c =
-    let k = le-leb _ _ (c .before .if1 .taken) in
-    rw (c .next-state .ensures, rw (c .before .before .lookahead-offset .ensures) at k)
+    let e = c .before .before in
+    let s = begin e in
+    let k = rw (e .lookahead-offset .ensures) at (le-leb _ _ (c .before .if1 .taken)) in
+    c .bare .ensures ∙ sym (stays (view (s .args .s)) (given s) k)
 
 sub-distance : tie.Need-sub-distance
 sub-distance c = at (start c) .behind
@@ -96,16 +109,18 @@ sub-distance c = at (start c) .behind
 none-cut-requires : tie.Need-none-cut-requires
 none-cut-requires c κs = search needs
 
-next-state-requires-2 : tie.Need-next-state-requires-2
-next-state-requires-2 c κs = search needs
+bare-requires-2 : tie.Need-bare-requires-2
+bare-requires-2 c κs = search needs
 
 returns-2 : tie.Need-returns-2
-unfolding acceptedOf
 returns-2 c =
     let n = c .before .before in
     let e = n .before .before in
+    let s = start e in
+    let v = view (s .args .s) in
+    let w = given s in
     let k = rw (e .before .lookahead-offset .ensures) at (lt-leb _ _ (e .if1 .left)) in
-    rw (c .next-state2 .ensures, c .before .none-cut .ensures, k, n .if2 .taken)
+    c .bare2 .ensures ∙ ap (bareOf v (w .setLength) (w .number)) (c .before .none-cut .ensures) ∙ sym (silent v w k (eq-eqb _ _ (n .if2 .taken)))
 
 initialized-requires : tie.Need-initialized-requires
 initialized-requires c κs =
@@ -147,8 +162,8 @@ add-trimmed c =
 trimmed-requires : tie.Need-trimmed-requires
 trimmed-requires c κs = search needs
 
-next-state-requires-3 : tie.Need-next-state-requires-3
-next-state-requires-3 c κs = search needs
+next-state-requires : tie.Need-next-state-requires
+next-state-requires c κs = search needs
 
 returns-3 : tie.Need-returns-3
 returns-3 c =
@@ -175,8 +190,8 @@ returns-3 c =
     = entries-of (tr .trimmed .result) _ (tr .trimmed .ensures)
     ∙ ap (λ (m : ℕ). trimmedTo (normalLookahead + m) (content d)) (a .lookahead-offset .ensures)
     ∙ ap (λ (u : Turn). rule7 g (u .entries)) t in
-    let next = c .next-state3 .ensures ∙ ap (λ (u : Turn). nextOf v (w .setLength) (w .number) (content (tr .trimmed .result)) (u .offset)) t in
-    scored-is v w (progressOf v w) (de .decided .result) (en .entry .result) (content (tr .trimmed .result)) (view (c .next-state3 .result)) cut score kept next
+    let next = c .next-state .ensures ∙ ap (λ (u : Turn). nextOf v (w .setLength) (w .number) (content (tr .trimmed .result)) (u .offset)) t in
+    scored-is v w (progressOf v w) (de .decided .result) (en .entry .result) (content (tr .trimmed .result)) (view (c .next-state .result)) cut score kept next
     ∙ sym (goes-on v w k (ne-eqb _ _ (e2 .if2 .left)))
 
 pub accepted-spec : {M : Type 1} → statement M
@@ -184,11 +199,11 @@ accepted-spec =
     tie.close
     (tie.spec
     lookahead-offset-requires
-    next-state-requires
+    bare-requires
     returns
     sub-distance
     none-cut-requires
-    next-state-requires-2
+    bare-requires-2
     returns-2
     initialized-requires
     advanced-requires
@@ -196,5 +211,5 @@ accepted-spec =
     entry-requires
     add-trimmed
     trimmed-requires
-    next-state-requires-3
+    next-state-requires
     returns-3)

@@ -86,7 +86,7 @@ items-scored-requires-2 : tie.Need-items-scored-requires-2
 items-scored-requires-2 c κs =
     let s = start (c .before) in
     let h = s .pre .0 .empty (c .before .if1 .left) .1 in
-    ((omega (arith, c .before .if1 .left, s .pre .0 .short), s .pre .0 .small), s .pre .1)
+    ((omega (arith, c .before .if1 .left, s .pre .0 .short), s .pre .0 .small), record { costs = omega (arith, s .pre .1 .costs); rest = λ e. omega (arith, s .pre .1 .rest e) })
 
 returns-3 : tie.Need-returns-3
 returns-3 c =

@@ -72,7 +72,7 @@ returns c =
     let f : take (suc last) out ≡ a .s ∷ take last (d .entries) = rw e at (c .before .loop .inv .1 .front) in
     rw add-one
     (held-is (suc last) out (take room (a .s ∷ content d))
-    (f ∙ ap (λ (l : List ScenecutResult). a .s ∷ l) (rw n (sym (take-min 15 (d .count) (d .entries)))))
+    (f ∙ ap (λ (l : List ScenecutResult). a .s ∷ l) (rw n (sym (take-min (room - 1) (d .count) (d .entries)))))
     (omega (arith, length-take room (a .s ∷ content d), long-min d r)))
 
 pub pushed-front-spec : {M : Type 1} → statement M

@@ -1,0 +1,3 @@
+pub mod Films
+pub mod Meeting
+pub mod History

@@ -1,0 +1,170 @@
+/* brinepulley.h: the decision core of a buoy's recorder, for C and C++ (libbrinepulley.a, x86-64 Linux).
+ *
+ * What a function returns. A value at or above 0, or the number of a refusal, negated. A refused call writes nothing. Each
+ * function's comment lists its refusals in the order in which they are tested; the first that applies is given.
+ *
+ *    1  a side of a plane is 0 or above 8,192, or its stride is below its width
+ *    2  a plane needs more samples than were lent; a list or a block has another length than it must have
+ *    3  two planes differ in width or height
+ *    4  the cost list is shorter than the number of blocks
+ *    5  the depth is not 8
+ *    6  a side of the resolution is outside 1 to 8,192, or the mode is not 0, 1 or 2
+ *    7  the frame number is 0, or 2^32 or more, or below the previous keyframe's, or not one above the last call's
+ *    8  a set has more than 16 frames, or more than the last call's
+ *    9  a set of one frame with a lookahead below 5, an offset of 0 and a mode that scores
+ *   10  a list that is read has another length than it must have, or holds a number that it may not hold
+ *   11  the lent places hold no state
+ *
+ * What is lent. A pointer is followed by its length, counted in elements. The pointer is aligned for its type. A list of
+ * length 0 may be NULL. The `double *` places of single results are never NULL. A place that a function writes must not
+ * overlap any other place that is lent to the same call; places that are only read may overlap. A function keeps no pointer
+ * after it returns, and there is no hidden state: calls on different places may run in several threads.
+ *
+ * A plane is a pointer to 8 bit samples, their number, then width, height, stride and origin: sample (x, y) is
+ * samples[origin + y * stride + x]. Samples outside the plane's width and height are never read or written.
+ */
+#ifndef BRINEPULLEY_H
+#define BRINEPULLEY_H
+
+#include <stddef.h>
+#include <stdint.h>
+
+#ifdef __cplusplus
+extern "C" {
+#endif
+
+/* The modes. None decides by the intervals alone, Fast by the inter costs, Standard by all three measures. */
+#define BRINE_MODE_NONE 0
+#define BRINE_MODE_FAST 1
+#define BRINE_MODE_STANDARD 2
+
+/* ---- measures ---- */
+
+/* The factor by which Fast mode divides a frame's sides before frames are compared: 1 (none), 2, 4, 8, 16 or 32. In the
+ * other modes it is 1. The reduced sides are the sides divided by it, rounded down.
+ * Refusals: 6. */
+int64_t brine_scale_factor(size_t width, size_t height, uint32_t mode);
+
+/* The sum of absolute differences of two planes over their visible samples.
+ * Refusals: 5; 1 and 2 of the first plane; 1 and 2 of the second; 3. */
+int64_t brine_plane_difference(uint32_t depth,
+    const uint8_t *first, size_t first_len, size_t width, size_t height, size_t stride, size_t origin,
+    const uint8_t *second, size_t second_len, size_t width2, size_t height2, size_t stride2, size_t origin2);
+
+/* The importance total: for each whole block of 8 x 8 samples the distance of the two planes' rounded means, added up. It
+ * is 0 where no block is whole.
+ * Refusals: 5; 1 and 2 of the first plane; 1 and 2 of the second; 3. */
+int64_t brine_importance_total(uint32_t depth,
+    const uint8_t *first, size_t first_len, size_t width, size_t height, size_t stride, size_t origin,
+    const uint8_t *second, size_t second_len, size_t width2, size_t height2, size_t stride2, size_t origin2);
+
+/* Delta, the inter cost of Fast mode: the plane difference over width * height. Returns 0, and the quotient is in *delta.
+ * Refusals: 5; 1 and 2 of the first plane; 1 and 2 of the second; 3. Then *delta is as it was. */
+int64_t brine_delta(uint32_t depth,
+    const uint8_t *first, size_t first_len, size_t width, size_t height, size_t stride, size_t origin,
+    const uint8_t *second, size_t second_len, size_t width2, size_t height2, size_t stride2, size_t origin2,
+    double *delta);
+
+/* The importance: the importance total over the number of whole blocks. Returns 0, and the quotient is in *importance. With
+ * no whole block it is a NaN.
+ * Refusals: 5; 1 and 2 of the first plane; 1 and 2 of the second; 3. Then *importance is as it was. */
+int64_t brine_importance(uint32_t depth,
+    const uint8_t *first, size_t first_len, size_t width, size_t height, size_t stride, size_t origin,
+    const uint8_t *second, size_t second_len, size_t width2, size_t height2, size_t stride2, size_t origin2,
+    double *importance);
+
+/* The intra costs of a plane. Returns the number of whole blocks, (height / 8) * (width / 8). Each block's cost goes to
+ * `costs`, in row order, and its rest stays. In the work plane every whole block is filled with 128, and every other sample
+ * stays.
+ * Refusals: 5; 1 and 2 of the plane; 1 and 2 of the work plane; 3; 4. Then the work plane and the costs are as they were. */
+int64_t brine_intra_costs(uint32_t depth,
+    const uint8_t *samples, size_t samples_len, size_t width, size_t height, size_t stride, size_t origin,
+    uint8_t *work, size_t work_len, size_t width2, size_t height2, size_t stride2, size_t origin2,
+    uint32_t *costs, size_t costs_len);
+
+/* The threshold of Standard mode from the first `count` costs: their mean times (1.0 - 0.7). Returns 0, and the threshold is
+ * in *threshold. With a count of 0 it is a NaN.
+ * Refusals: 4, where the list has fewer than `count` costs; 1, where it has as many and `count` is above 2^32. Then
+ * *threshold is as it was. */
+int64_t brine_threshold(const uint32_t *costs, size_t costs_len, size_t count, double *threshold);
+
+/* The Hadamard transform of 16 numbers, four rows of four, in their place. Returns 0.
+ * Refusals: 2, where the length is not 16; 10, where a number is beyond 65,535 or below -65,535. Then the list is as it
+ * was. */
+int64_t brine_hadamard4x4(int32_t *list, size_t len);
+
+/* The same of 64 numbers, eight rows of eight.
+ * Refusals: 2, where the length is not 64; 10. */
+int64_t brine_hadamard8x8(int32_t *list, size_t len);
+
+/* The SATD of two blocks of 64 samples, eight rows of eight.
+ * Refusals: 2, where a length is not 64. */
+int64_t brine_satd8x8(const uint8_t *first, size_t first_len, const uint8_t *second, size_t second_len);
+
+/* ---- the detector ---- */
+
+/* A detector's state lives in two places that the caller keeps: `numbers`, BRINE_NUMBERS of them, and `scores`, BRINE_SCORES
+ * doubles. Places with other lengths are no state. Keep both between the calls, and change nothing in them. */
+#define BRINE_NUMBERS 13
+#define BRINE_SCORES 80
+
+/* The thirteen numbers, by their index. */
+enum brine_number {
+    BRINE_WIDTH,          /* the settings, which no call changes: the resolution .. */
+    BRINE_HEIGHT,
+    BRINE_DEPTH,
+    BRINE_LOOKAHEAD,      /* .. the lookahead distance, the mode .. */
+    BRINE_MODE,
+    BRINE_MIN,            /* .. and the least and the largest distance of two keyframes */
+    BRINE_MAX,
+    BRINE_OFFSET,         /* which score the last call decided on, see below */
+    BRINE_LAST_NUMBER,    /* the frame number and the set length of the last accepted call; 0 before any */
+    BRINE_LAST_LENGTH,
+    BRINE_FIRST_NUMBER,   /* the frame number of the first accepted call; 0 before any */
+    BRINE_RELEASE_NUMBER, /* frames numbered below it are not needed any more: they may be purged */
+    BRINE_COUNT           /* how many scores there are, from the front of `scores` on */
+};
+
+/* Score k is the five doubles from scores[5 * k] on, in this order. The newest score is score 0. Doubles past the count are no
+ * part of the state: they are neither read nor written. */
+#define BRINE_SCORE_DOUBLES 5
+enum brine_double {
+    BRINE_INTER,
+    BRINE_IMPORTANCE,
+    BRINE_BACKWARD,
+    BRINE_FORWARD,
+    BRINE_THRESHOLD
+};
+
+/* A fresh detector. Returns 0, and the thirteen numbers are written; there is no score yet, so `scores` is not written.
+ * Refusals: 11, where numbers_len is not BRINE_NUMBERS or scores_len not BRINE_SCORES; 6; 5. Then nothing is written. */
+int64_t brine_detector_fresh(size_t width, size_t height, uint32_t depth, size_t lookahead, uint32_t mode,
+    uint64_t min, uint64_t max, uint64_t *numbers, size_t numbers_len, double *scores, size_t scores_len);
+
+/* The step: decides whether a scene begins at frame `frame`, from a set of `set_len` frames of which it is the second. Item k
+ * of a list was measured between frames k and k + 1 of the set, so each list that the mode reads has set_len - 1 items (none
+ * for an empty set). Fast mode reads `inter` alone and None mode no list; a list that is not read may be anything, as NULL with
+ * length 0.
+ * Returns what was decided:
+ *   0  no cut and no score     1  a cut without a score     2  no cut, with a score     3  a cut, with a score
+ * With a score, it is the five doubles from scores[5 * numbers[BRINE_OFFSET]] on. After the call frames numbered below
+ * numbers[BRINE_RELEASE_NUMBER] may be purged.
+ * Refusals:
+ *   11, where a length is not the state's, or the settings are ones that `fresh` refuses, or the count is above 15 (above 10
+ *       with a lookahead of 5 or more), or the offset is not below the count (with no score: not 5 or 0, as the lookahead has
+ *       it), or a score's inter cost is one that 10 forbids;
+ *   7, 8, 9;
+ *   10, where a list that is read has not set_len - 1 items, or an inter cost is a NaN, infinite or below 0, or an importance
+ *       or a threshold is infinite or below 0 (there a NaN is allowed).
+ * Then nothing is written. An accepted call writes the six numbers from BRINE_OFFSET on and, if there is a score, the scores
+ * up to the count. */
+int64_t brine_detector_step(uint64_t *numbers, size_t numbers_len, double *scores, size_t scores_len,
+    size_t set_len, uint64_t frame, uint64_t previous_keyframe,
+    const double *inter, size_t inter_len, const double *importance, size_t importance_len,
+    const double *threshold, size_t threshold_len);
+
+#ifdef __cplusplus
+}
+#endif
+
+#endif

@@ -1,0 +1,33 @@
+# Part of command.sh: the command line.
+a=$room/a.y4m
+film y4m 16 16 420 50 50 90 90 > "$a"
+
+command_run --help
+holds=no
+[ "$status" = 0 ] && grep -q 'decide FILM.y4m' "$room/out" && [ ! -s "$room/err" ] && holds=yes
+verdict "--help" "$holds"
+command_run decide --help
+holds=no
+[ "$status" = 0 ] && grep -q 'decide FILM.y4m' "$room/out" && holds=yes
+verdict "decide --help" "$holds"
+command_run --version
+holds=no
+[ "$status" = 0 ] && grep -Eq '^brinepulley [0-9]+\.[0-9]+\.[0-9]+$' "$room/out" && holds=yes
+verdict "--version" "$holds"
+
+ends "no command" 2 "which command"
+ends "an unknown command" 2 "no command 'dance'" dance
+ends "an unknown option" 2 "no option '--fast'" decide "$a" --fast
+ends "no film" 2 "wants a film" decide --csv
+ends "two films" 2 "one film" decide "$a" "$a"
+ends "an option without its value" 2 "--min wants a value" decide "$a" --min
+ends "an unknown mode" 2 "--mode wants" decide "$a" --mode slow
+ends "lookahead 0" 2 "at least 1" decide "$a" --lookahead 0
+for bad in '' x 1x -1 +1 ' 1' 1.5 18446744073709551616; do
+    ends "a bad number '$bad'" 2 "--max wants a whole number" decide "$a" --max "$bad"
+done
+ends "standard mode without costs" 2 "--inter FILE" decide "$a" --mode standard
+ends "costs in fast mode" 2 "--mode standard alone" decide "$a" --inter "$a"
+ends "measure with one picture" 2 "two pictures" measure "$a"
+ends "measure with three pictures" 2 "two pictures" measure "$a" "$a" "$a"
+ends "demo with a word" 2 "takes no words" demo now

@@ -1,0 +1,58 @@
+#include "detector.h"
+
+#include <string.h>
+
+void detector_make(struct detector *detector, uint32_t mode, size_t lookahead)
+{
+    detector->numbers = lent_make(&detector->lent_numbers, NUMBERS * sizeof(uint64_t));
+    detector->scores = lent_make(&detector->lent_scores, SCORES * sizeof(double));
+    EXPECT_NUMBER(brine_detector_fresh(64, 48, 8, lookahead, mode, 0, UINT32_MAX, detector->numbers, NUMBERS,
+                                       detector->scores, SCORES),
+                  0);
+}
+
+struct step step_of(size_t set, uint64_t frame, uint64_t previous, double inter, double importance, double threshold)
+{
+    struct step step = {.set = set, .frame = frame, .previous = previous};
+    const size_t items = set == 0 ? 0 : set - 1;
+    step.inter_count = step.importance_count = step.threshold_count = items;
+    for (size_t i = 0; i < ENTRIES; i++) {
+        step.inter[i] = inter;
+        step.importance[i] = importance;
+        step.threshold[i] = threshold;
+    }
+    return step;
+}
+
+int64_t detector_step(struct detector *detector, const struct step *s)
+{
+    lent_keep(&detector->lent_numbers);
+    lent_keep(&detector->lent_scores);
+    return brine_detector_step(detector->numbers, NUMBERS, detector->scores, SCORES, s->set, s->frame, s->previous,
+                               s->inter, s->inter_count, s->importance, s->importance_count, s->threshold,
+                               s->threshold_count);
+}
+
+void detector_refuses(struct detector *detector, const struct step *step, int64_t number)
+{
+    EXPECT_NUMBER(detector_step(detector, step), -number);
+    EXPECT(lent_same(&detector->lent_numbers));
+    EXPECT(lent_same(&detector->lent_scores));
+}
+
+bool detector_kept(const struct detector *detector)
+{
+    const struct lent *n = &detector->lent_numbers, *s = &detector->lent_scores;
+    const size_t numbers = GUARD + NUMBERS * sizeof(uint64_t);
+    const size_t past = GUARD + (size_t)detector->numbers[COUNT] * 5 * sizeof(double);
+    return detector->numbers[COUNT] <= ENTRIES
+        && memcmp(n->kept, n->whole, GUARD) == 0
+        && memcmp(n->kept + numbers, n->whole + numbers, sizeof n->whole - numbers) == 0
+        && memcmp(s->kept, s->whole, GUARD) == 0
+        && memcmp(s->kept + past, s->whole + past, sizeof s->whole - past) == 0;
+}
+
+double detector_score(const struct detector *detector, size_t entry, size_t number)
+{
+    return detector->scores[5 * entry + number];
+}

@@ -1,0 +1,50 @@
+/* A detector as C sees it: two lent places with guard bytes, and the arguments of a step. */
+#ifndef DETECTOR_H
+#define DETECTOR_H
+
+#include "brinepulley.h"
+#include "check.h"
+
+enum { NONE = 0, FAST = 1, STANDARD = 2 };
+
+enum { ENTRIES = 16, NUMBERS = 13, SCORES = ENTRIES * 5 };
+
+/* Places in `numbers`. */
+enum { WIDTH, HEIGHT, DEPTH, LOOKAHEAD, MODE, MIN, MAX, OFFSET, LAST, LENGTH, FIRST, RELEASE, COUNT };
+
+/* Places in a score. */
+enum { INTER, IMPORTANCE, BACKWARD, FORWARD, THRESHOLD };
+
+struct detector {
+    struct lent lent_numbers;
+    struct lent lent_scores;
+    uint64_t *numbers;
+    double *scores;
+};
+
+struct step {
+    size_t set; /* frames of the set */
+    uint64_t frame;
+    uint64_t previous;
+    double inter[ENTRIES], importance[ENTRIES], threshold[ENTRIES];
+    size_t inter_count, importance_count, threshold_count;
+};
+
+/* A fresh detector for frames of 64 × 48, min 0 and max 2^32 - 1. Its scores are rubbish, as none is in use. */
+void detector_make(struct detector *detector, uint32_t mode, size_t lookahead);
+
+/* A step with lists of the length that the set wants, all filled with one value each. */
+struct step step_of(size_t set, uint64_t frame, uint64_t previous, double inter, double importance, double threshold);
+
+int64_t detector_step(struct detector *detector, const struct step *step);
+
+/* The step is refused with that number, and no byte of the two places changes. */
+void detector_refuses(struct detector *detector, const struct step *step, int64_t number);
+
+/* The guards and the places past the count are as they were before the last step. */
+bool detector_kept(const struct detector *detector);
+
+/* One number of one entry. */
+double detector_score(const struct detector *detector, size_t entry, size_t number);
+
+#endif

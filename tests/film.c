@@ -1,0 +1,55 @@
+/* Writes test films and pictures to the standard output:
+     film y4m WIDTH HEIGHT COLOUR LUMA...   a Y4M film, one frame for each LUMA; COLOUR - leaves its word out
+     film pgm WIDTH HEIGHT LARGEST LUMA     a binary PGM picture
+   LUMA is a number, or two as 16/17 for columns by turns. */
+#include <stdio.h>
+#include <stdlib.h>
+#include <string.h>
+
+static void put_luma(const char *luma, size_t width, size_t height)
+{
+    const char *slash = strchr(luma, '/');
+    const int even = atoi(luma), odd = slash == NULL ? even : atoi(slash + 1);
+    for (size_t i = 0; i < height; i++)
+        for (size_t x = 0; x < width; x++)
+            putchar(x % 2 == 0 ? even : odd);
+}
+
+static size_t chroma_bytes(const char *colour, size_t width, size_t height)
+{
+    if (strncmp(colour, "444", 3) == 0)
+        return 2 * width * height;
+    if (strncmp(colour, "422", 3) == 0)
+        return 2 * ((width + 1) / 2) * height;
+    if (strncmp(colour, "mono", 4) == 0)
+        return 0;
+    return 2 * ((width + 1) / 2) * ((height + 1) / 2);
+}
+
+static void put_film(size_t width, size_t height, const char *colour, int frames, char **luma)
+{
+    printf("YUV4MPEG2 W%zu H%zu F1:600 Ip A1:1", width, height);
+    if (strcmp(colour, "-") != 0)
+        printf(" C%s", colour);
+    printf(" XNOTE=test\n");
+    for (int i = 0; i < frames; i++) {
+        printf(i % 3 == 2 ? "FRAME Ip\n" : "FRAME\n");
+        put_luma(luma[i], width, height);
+        for (size_t k = 0; k < chroma_bytes(colour, width, height); k++)
+            putchar((int)(i * 7 + 77) & 255);
+    }
+}
+
+int main(int count, char **words)
+{
+    if (count < 5)
+        return 2;
+    const size_t width = strtoul(words[2], NULL, 10), height = strtoul(words[3], NULL, 10);
+    if (strcmp(words[1], "y4m") == 0) {
+        put_film(width, height, words[4], count - 5, words + 5);
+    } else if (count == 6) {
+        printf("P5\n# a test picture\n%zu %zu\n%s\n", width, height, words[4]);
+        put_luma(words[5], width, height);
+    }
+    return ferror(stdout) ? 2 : 0;
+}

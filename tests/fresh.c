@@ -1,0 +1,92 @@
+/* The fresh detector: what it writes, what it refuses. */
+#include "detector.h"
+
+#include <string.h>
+
+static struct lent numbers, scores;
+
+struct call {
+    size_t width, height, lookahead, numbers_len, scores_len;
+    uint32_t depth, mode;
+    uint64_t min, max;
+};
+
+static const struct call good = {64, 48, 5, NUMBERS, SCORES, 8, STANDARD, 3, 250};
+
+static int64_t called(struct call c)
+{
+    uint64_t *n = lent_make(&numbers, (NUMBERS + 1) * sizeof(uint64_t));
+    double *s = lent_make(&scores, (SCORES + 1) * sizeof(double));
+    return brine_detector_fresh(c.width, c.height, c.depth, c.lookahead, c.mode, c.min, c.max, n, c.numbers_len, s,
+                                c.scores_len);
+}
+
+#define REFUSED(number, ...)                                                                                            \
+    do {                                                                                                               \
+        struct call c = good;                                                                                          \
+        __VA_ARGS__;                                                                                                   \
+        EXPECT_NUMBER(called(c), -(number));                                                                           \
+        EXPECT(lent_same(&numbers) && lent_same(&scores));                                                             \
+    } while (0)
+
+static void refusals(void)
+{
+    REFUSED(11, c.numbers_len = 12);
+    REFUSED(11, c.numbers_len = 14);
+    REFUSED(11, c.numbers_len = 0);
+    REFUSED(11, c.scores_len = 79);
+    REFUSED(11, c.scores_len = 81);
+    REFUSED(11, c.scores_len = 0);
+    REFUSED(6, c.width = 0);
+    REFUSED(6, c.width = 8193);
+    REFUSED(6, c.height = 0);
+    REFUSED(6, c.height = 8193);
+    REFUSED(6, c.width = SIZE_MAX);
+    REFUSED(6, c.mode = 3);
+    REFUSED(6, c.mode = UINT32_MAX);
+    REFUSED(5, c.depth = 0);
+    REFUSED(5, c.depth = 7);
+    REFUSED(5, c.depth = 10);
+}
+
+static void order(void)
+{
+    REFUSED(11, c.numbers_len = 12, c.width = 0, c.depth = 10);
+    REFUSED(11, c.scores_len = 81, c.mode = 3);
+    REFUSED(6, c.height = 0, c.depth = 10);
+}
+
+/* All thirteen numbers, and not one of the scores. */
+static void fresh_is(struct call c, uint64_t offset)
+{
+    uint64_t want[NUMBERS + 1] = {c.width, c.height, 8, c.lookahead, c.mode, c.min, c.max, offset};
+    EXPECT_NUMBER(called(c), 0);
+    memcpy(want + NUMBERS, numbers.kept + GUARD + NUMBERS * sizeof(uint64_t), sizeof(uint64_t));
+    EXPECT(lent_holds(&numbers, want));
+    EXPECT(lent_same(&scores));
+}
+
+static void lent_places(void)
+{
+    struct call c = good;
+    fresh_is(c, 5);
+    c.lookahead = 4;
+    fresh_is(c, 0);
+    c.lookahead = 0;
+    c.mode = NONE;
+    fresh_is(c, 0);
+    c.lookahead = SIZE_MAX;
+    c.min = c.max = UINT64_MAX;
+    c.width = c.height = 8192;
+    c.mode = FAST;
+    fresh_is(c, 5);
+    c.width = c.height = 1;
+    fresh_is(c, 5);
+}
+
+const struct test fresh_tests[] = {
+    {"fresh: refusals 11, 6, 5", refusals},
+    {"fresh: the order of refusals", order},
+    {"fresh: the lent places, byte for byte", lent_places},
+    {0},
+};

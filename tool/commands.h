@@ -1,0 +1,11 @@
+/* The subcommands. Each takes the words behind its own and gives the exit status. */
+#ifndef COMMANDS_H
+#define COMMANDS_H
+
+#include "say.h"
+
+enum status command_decide(int count, char **words);
+enum status command_measure(int count, char **words);
+enum status command_demo(int count, char **words);
+
+#endif

@@ -1,0 +1,136 @@
+#include "driver.h"
+
+#include "brinepulley.h"
+
+#include <stdio.h>
+#include <string.h>
+
+enum {
+    LARGEST_SET = 16, /* frames of a set, at most */
+    LARGEST_LISTS = LARGEST_SET - 1,
+    NUMBERS = 13, /* the state's numbers, and the places of two of them */
+    OFFSET = 7,
+    RELEASE = 11,
+    SCORES = 16
+};
+
+struct driver {
+    uint64_t numbers[NUMBERS];
+    double scores[SCORES * SCORE_NUMBERS];
+    uint32_t mode;
+
+    /* The set in hand: pair k of it is frame number + k, so the frame to decide on is the first pair's second one. */
+    double inter[LARGEST_LISTS];
+    double importance[LARGEST_LISTS];
+    double threshold[LARGEST_LISTS];
+    size_t pairs;
+    size_t most_pairs;
+    bool ended; /* the film has no further frame */
+};
+
+static enum status start(struct driver *driver, const struct film *film, const struct settings *settings)
+{
+    static const char *const modes[] = {"none", "fast", "standard"};
+    char what[512];
+
+    memset(driver, 0, sizeof *driver);
+    driver->mode = settings->mode;
+    driver->most_pairs = settings->lookahead < LARGEST_LISTS ? settings->lookahead + 1 : LARGEST_LISTS;
+    const int64_t answer =
+        brine_detector_fresh(film->width, film->height, film->depth, settings->lookahead, settings->mode, settings->min,
+                             settings->max, driver->numbers, NUMBERS, driver->scores, SCORES * SCORE_NUMBERS);
+    if (answer >= 0)
+        return DONE;
+    snprintf(what, sizeof what, "%.256s: %zu × %zu at %u bits, mode %s", film->name, film->width, film->height,
+             (unsigned)film->depth, settings->mode < 3 ? modes[settings->mode] : "unknown");
+    return say_refused(what, answer);
+}
+
+/* Measures frames until the set is full or the film ends. */
+static enum status fill(struct driver *driver, struct gauge *gauge)
+{
+    while (driver->pairs < driver->most_pairs && !driver->ended) {
+        struct pair pair;
+        const enum status status = gauge_next(gauge, &pair, &driver->ended);
+        if (status != DONE)
+            return status;
+        if (driver->ended)
+            return costs_end(gauge->costs);
+        driver->inter[driver->pairs] = pair.inter;
+        driver->importance[driver->pairs] = pair.importance;
+        driver->threshold[driver->pairs] = pair.threshold;
+        driver->pairs++;
+    }
+    return DONE;
+}
+
+/* The first pair leaves the set. */
+static void advance(struct driver *driver)
+{
+    const size_t bytes = (driver->pairs - 1) * sizeof(double);
+    memmove(driver->inter, driver->inter + 1, bytes);
+    memmove(driver->importance, driver->importance + 1, bytes);
+    memmove(driver->threshold, driver->threshold + 1, bytes);
+    driver->pairs--;
+}
+
+/* One call of the detector: a list that the mode does not read is lent empty. */
+static enum status step(struct driver *driver, const struct film *film, uint64_t previous, struct verdict *verdict)
+{
+    const size_t pairs = driver->pairs;
+    const size_t inter = driver->mode == MODE_NONE ? 0 : pairs;
+    const size_t others = driver->mode == MODE_STANDARD ? pairs : 0;
+    const int64_t answer = brine_detector_step(
+        driver->numbers, NUMBERS, driver->scores, SCORES * SCORE_NUMBERS, pairs + 1, verdict->frame, previous,
+        driver->inter, inter, driver->importance, others, driver->threshold, others);
+
+    if (answer < 0) {
+        char what[512];
+        snprintf(what, sizeof what, "%.256s: frame %llu", film->name, (unsigned long long)verdict->frame);
+        return say_refused(what, answer);
+    }
+    verdict->cut = answer == 1 || answer == 3;
+    verdict->scored = answer >= 2;
+    if (verdict->scored)
+        memcpy(verdict->score, driver->scores + driver->numbers[OFFSET] * SCORE_NUMBERS, sizeof verdict->score);
+    verdict->release = driver->numbers[RELEASE];
+    return DONE;
+}
+
+/* The first frame begins a scene; then one step for each frame that has one before it. */
+static enum status decide_all(struct driver *driver, struct gauge *gauge, verdict_taker *take, void *taker)
+{
+    uint64_t previous = 0;
+    const struct verdict first = {.cut = true};
+
+    take(taker, &first);
+    for (uint64_t frame = 1;; frame++) {
+        struct verdict verdict = {.frame = frame};
+        enum status status = fill(driver, gauge);
+        if (status != DONE || driver->pairs == 0)
+            return status;
+        status = step(driver, gauge->film, previous, &verdict);
+        if (status != DONE)
+            return status;
+        take(taker, &verdict);
+        if (verdict.cut)
+            previous = frame;
+        advance(driver);
+    }
+}
+
+enum status drive(struct film *film, struct costs *costs, const struct settings *settings, verdict_taker *take,
+                  void *taker)
+{
+    struct driver driver;
+    struct gauge gauge;
+    enum status status = start(&driver, film, settings);
+
+    if (status != DONE)
+        return status;
+    status = gauge_start(&gauge, film, costs, settings->mode);
+    if (status == DONE)
+        status = decide_all(&driver, &gauge, take, taker);
+    gauge_free(&gauge);
+    return status;
+}

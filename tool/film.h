@@ -1,0 +1,31 @@
+/* Films: luma frames of one size, in order. */
+#ifndef FILM_H
+#define FILM_H
+
+#include "say.h"
+
+#include <stdio.h>
+
+enum fetched { FRAME, END, BROKEN }; /* BROKEN: the reader has said why */
+
+struct film {
+    const char *name;
+    size_t width;
+    size_t height;
+    uint32_t depth;
+    /* Puts the next frame's width × height samples at `luma`. */
+    enum fetched (*next)(struct film *film, uint8_t *luma);
+    uint64_t frames; /* how many were fetched */
+
+    /* a Y4M file's own */
+    FILE *file;
+    uint32_t colour; /* how chroma goes with luma: enum colour of y4m.c */
+};
+
+/* Opens a Y4M film and reads its header; "-" is the standard input. Sides and depth are as the header says: the library
+   judges them, before the first frame is fetched. On a fault it has said why, and nothing is open. */
+enum status film_open_y4m(struct film *film, const char *path);
+
+void film_close(struct film *film);
+
+#endif

@@ -1,0 +1,42 @@
+/* Measures of successive frames: each new frame is measured against the one before it. */
+#ifndef GAUGE_H
+#define GAUGE_H
+
+#include "costs.h"
+#include "film.h"
+
+/* The modes, by document 01's numbers. */
+enum mode { MODE_NONE = 0, MODE_FAST = 1, MODE_STANDARD = 2 };
+
+/* What the detector reads of one pair of frames. */
+struct pair {
+    double inter;
+    double importance;
+    double threshold;
+};
+
+struct gauge {
+    struct film *film;
+    struct costs *costs;
+    uint32_t mode;
+    size_t factor; /* by the scale rule */
+    size_t width;  /* the reduced sides */
+    size_t height;
+    uint8_t *full;   /* a frame as the film has it, where planes are reduced */
+    uint8_t *before; /* the last frame, reduced */
+    uint8_t *now;    /* the new frame, reduced */
+    uint8_t *work;   /* the work plane of the intra costs */
+    uint32_t *blocks;
+    size_t block_count;
+};
+
+/* Makes room and fetches the film's first frame. The sides must be ones that the library accepts. gauge_free is due
+   whatever comes of it. */
+enum status gauge_start(struct gauge *gauge, struct film *film, struct costs *costs, uint32_t mode);
+
+/* Fetches the next frame and measures the pair; *ended where there is none. */
+enum status gauge_next(struct gauge *gauge, struct pair *pair, bool *ended);
+
+void gauge_free(struct gauge *gauge);
+
+#endif

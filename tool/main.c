@@ -1,0 +1,74 @@
+#include "commands.h"
+
+#include <stdio.h>
+#include <string.h>
+
+#ifndef BRINEPULLEY_VERSION
+#define BRINEPULLEY_VERSION "unknown"
+#endif
+
+static const char help[] =
+    "brinepulley: where a scene of a film begins\n"
+    "\n"
+    "  brinepulley decide FILM.y4m [--mode fast|standard|none] [--lookahead N]\n"
+    "                     [--min N] [--max N] [--inter FILE] [--csv]\n"
+    "      Decides on each frame of a Y4M film of 8 bits; '-' reads the standard\n"
+    "      input. A line per frame: number, cut or not, the score's five numbers,\n"
+    "      and the release number: frames numbered below it may be purged.\n"
+    "        --mode       fast (the default): differences of reduced frames;\n"
+    "                     standard: inter costs from FILE, importance, intra costs;\n"
+    "                     none: a cut every --max frames\n"
+    "        --lookahead  frames to look ahead, at least 1 (default 5)\n"
+    "        --min        no cut at a distance below N (default 0)\n"
+    "        --max        always a cut at a distance of N (default 4294967295)\n"
+    "        --inter      the inter costs of standard mode, one number per line,\n"
+    "                     that of frames 0 and 1 first\n"
+    "        --csv        for machines: commas, every digit, nothing else\n"
+    "\n"
+    "  brinepulley measure A.pgm B.pgm\n"
+    "      Difference, delta and importance of two binary PGM pictures of 8 bits,\n"
+    "      and the threshold of the second.\n"
+    "\n"
+    "  brinepulley demo\n"
+    "      Draws a small film of the sea and says what it shows and what was decided.\n"
+    "\n"
+    "  brinepulley --help, --version\n"
+    "\n"
+    "Exit status: 0 done; 1 refused, with document 01's number; 2 a wrong command\n"
+    "line, or a file that cannot be read. In the cases 1 and 2 nothing is written\n"
+    "to the standard output.\n";
+
+static enum status write_text(const char *text)
+{
+    struct page page = {0};
+    page_add(&page, "%s", text);
+    const enum status status = page_write(&page);
+    page_free(&page);
+    return status;
+}
+
+static bool asks_help(int count, char **words)
+{
+    for (int i = 0; i < count; i++)
+        if (strcmp(words[i], "--help") == 0 || strcmp(words[i], "-h") == 0)
+            return true;
+    return false;
+}
+
+int main(int count, char **words)
+{
+    if (count < 2)
+        return say_usage("which command: decide, measure or demo?");
+    const char *command = words[1];
+    if (asks_help(count - 1, words + 1))
+        return write_text(help);
+    if (strcmp(command, "--version") == 0)
+        return write_text("brinepulley " BRINEPULLEY_VERSION "\n");
+    if (strcmp(command, "decide") == 0)
+        return command_decide(count - 2, words + 2);
+    if (strcmp(command, "measure") == 0)
+        return command_measure(count - 2, words + 2);
+    if (strcmp(command, "demo") == 0)
+        return command_demo(count - 2, words + 2);
+    return say_usage("there is no command '%s'", command);
+}

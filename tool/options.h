@@ -1,0 +1,17 @@
+/* The words of the command line behind `decide`. */
+#ifndef OPTIONS_H
+#define OPTIONS_H
+
+#include "driver.h"
+
+struct options {
+    const char *film;
+    const char *inter;
+    bool csv;
+    struct settings settings;
+};
+
+/* Reads the words. On a fault it has said why. */
+enum status options_read(struct options *options, int count, char **words);
+
+#endif

@@ -1,0 +1,27 @@
+/* Pictures of 8-bit luma, and the reader of binary PGM files. */
+#ifndef PICTURE_H
+#define PICTURE_H
+
+#include "say.h"
+
+/* The largest side that the library takes. */
+enum { LARGEST_SIDE = 8192 };
+
+struct picture {
+    size_t width;
+    size_t height;
+    uint32_t depth;   /* bits of a sample, as the file says it */
+    uint8_t *samples; /* width × height of them, row after row */
+    size_t count;     /* 0 where the library will refuse the picture: then none are read */
+};
+
+/* Reads a binary PGM of 8 bits. On a fault it has said why, and the picture needs no picture_free. */
+enum status picture_read_pgm(struct picture *picture, const char *path);
+
+void picture_free(struct picture *picture);
+
+/* The mean of each square of factor × factor samples, rounded to the nearest, a half up. Samples right of and below the
+   last whole square are left out. This is the command's own: it is not proved. `to` has room for the reduced picture. */
+void picture_reduce(uint8_t *to, const uint8_t *from, size_t width, size_t height, size_t factor);
+
+#endif
