@@ -1,7 +1,7 @@
 //! Whole films of real planes through the crate's own driver, `detect_scene_changes`, with nothing replaced but the
 //! motion search: the inter costs are given.
 use num_rational::Rational32;
-use scenes::{DetectionOptions, Decoder, SceneDetectionSpeed, detect_scene_changes};
+use scenes::{Decoder, DetectionOptions, DetectionResults, SceneDetectionSpeed, ScenecutResult, detect_scene_changes};
 use v_frame::{
     chroma::ChromaSubsampling,
     frame::{Fed, Frame},
@@ -44,35 +44,56 @@ fn planes(r: &mut Random, width: usize, height: usize, frames: u64) -> Vec<Plane
     list.collect()
 }
 
-pub fn film(desk: &mut Desk, r: &mut Random) {
-    let mode = r.of(&[0, 1, 1, 2, 2]);
-    let large = mode == 1 && r.once_in(12);
-    let (width, height) = if large { (r.of(&[242, 250]), 241) } else { (r.from_to(1, 40), r.from_to(1, 40)) };
-    let count = if large { r.from_to(2, 12) } else { r.from_to(1, 60) };
-    let ahead = if r.once_in(2) { r.from_to(4, 6) } else { r.from_to(1, 14) };
-    let (min, max) = (r.below(4), if r.once_in(2) { 4 + r.below(20) } else { u64::from(u32::MAX) });
-    let planes = planes(r, width as usize, height as usize, count);
-    let feed = |r: &mut Random| Fed { inter: (r.part() * 400.0).powi(2) / 100.0, ..Fed::default() };
-    let frames: Vec<Frame<u8>> = planes.into_iter().map(|p| Frame::of(p, feed(r))).collect();
+/// A film and the settings of its detector: width, height, depth, lookahead, mode, min, max.
+pub struct Film {
+    pub settings: [u64; 7],
+    pub frames: Vec<Frame<u8>>,
+}
 
-    let options = DetectionOptions {
-        analysis_speed: speed(mode),
-        detect_flashes: true,
-        min_scenecut_distance: Some(min as usize),
-        max_scenecut_distance: Some(max as usize),
-        lookahead_distance: ahead as usize,
-    };
-    let mut decoder = Decoder::of(width as usize, height as usize, frames.clone());
-    let Ok(found) = detect_scene_changes::<u8>(&mut decoder, options, None, None) else {
+impl Film {
+    pub fn draw(r: &mut Random) -> Film {
+        let mode = r.of(&[0, 1, 1, 2, 2]);
+        let large = mode == 1 && r.once_in(12);
+        let (width, height) = if large { (r.of(&[242, 250]), 241) } else { (r.from_to(1, 40), r.from_to(1, 40)) };
+        let count = if large { r.from_to(2, 12) } else { r.from_to(1, 60) };
+        let ahead = if r.once_in(2) { r.from_to(4, 6) } else { r.from_to(1, 14) };
+        let (min, max) = (r.below(4), if r.once_in(2) { 4 + r.below(20) } else { u64::from(u32::MAX) });
+        let planes = planes(r, width as usize, height as usize, count);
+        let feed = |r: &mut Random| Fed { inter: (r.part() * 400.0).powi(2) / 100.0, ..Fed::default() };
+        let frames = planes.into_iter().map(|p| Frame::of(p, feed(r))).collect();
+        Film { settings: [width, height, 8, ahead, mode, min, max], frames }
+    }
+
+    /// What the crate's driver finds; nothing where it stops.
+    pub fn found(&self) -> Option<DetectionResults> {
+        let [width, height, _, ahead, mode, min, max] = self.settings;
+        let options = DetectionOptions {
+            analysis_speed: speed(mode),
+            detect_flashes: true,
+            min_scenecut_distance: Some(min as usize),
+            max_scenecut_distance: Some(max as usize),
+            lookahead_distance: ahead as usize,
+        };
+        let mut decoder = Decoder::of(width as usize, height as usize, self.frames.clone());
+        detect_scene_changes::<u8>(&mut decoder, options, None, None).ok()
+    }
+}
+
+pub fn score(e: &ScenecutResult) -> [f64; 5] {
+    [e.inter_cost, e.imp_block_cost, e.backward_adjusted_cost, e.forward_adjusted_cost, e.threshold]
+}
+
+pub fn film(desk: &mut Desk, r: &mut Random) {
+    let film = Film::draw(r);
+    let Some(found) = film.found() else {
         desk.tally.differs("a film that the crate stops on");
         return;
     };
 
     // What the port is given: planes already reduced, and the inter costs.
-    let settings = [width, height, 8, ahead, mode, min, max];
-    let eye = detector(&settings);
-    desk.out.words(&settings).word(count);
-    for f in &frames {
+    let eye = detector(&film.settings);
+    desk.out.words(&film.settings).word(film.frames.len() as u64);
+    for f in &film.frames {
         let reduced = eye.door_reduced(&f.y_plane);
         let PlaneGeometry { width, height, stride, origin } = reduced.shape;
         desk.out.words(&[width, height, stride, origin].map(|x| x as u64));
@@ -84,10 +105,7 @@ pub fn film(desk: &mut Desk, r: &mut Random) {
     desk.out.word(cuts.len() as u64).words(&cuts);
     desk.out.word(found.scores.len() as u64);
     for (n, e) in &found.scores {
-        desk.out.word(*n as u64);
-        for x in [e.inter_cost, e.imp_block_cost, e.backward_adjusted_cost, e.forward_adjusted_cost, e.threshold] {
-            desk.out.real(x);
-        }
+        desk.out.word(*n as u64).words(&score(e).map(f64::to_bits));
     }
     desk.out.end(Kind::Film);
     desk.tally.films += 1;

@@ -1,7 +1,10 @@
 //! Cases from a seed with the crate's answers, as a stream of words on the standard output.
 //!   oracle SEED COUNT       COUNT detector calls that the crate answers, COUNT / 10 measures of each kind at least
+//!   oracle film SEED FOLDER     a film for the command `brinepulley decide`, with the words to give it
+//!   oracle decided SEED         compares what the command wrote, from the standard input, with what the crate finds
 mod attempt;
 mod damage;
+mod decide;
 mod detector_cases;
 mod edges;
 mod films;
@@ -21,6 +24,12 @@ use stream::Stream;
 use tally::Tally;
 
 fn main() {
+    let argument = |i: usize| std::env::args().nth(i).unwrap_or_default();
+    match argument(1).as_str() {
+        "film" => return decide::write(&argument(2), &argument(3)).expect("a folder that can be written"),
+        "decided" => std::process::exit(i32::from(!decide::compare(&argument(2)))),
+        _ => (),
+    }
     let number = |i: usize, or: u64| std::env::args().nth(i).map_or(or, |s| s.parse().expect("a number"));
     let (seed, count) = (number(1, 1), number(2, 10_000));
     attempt::prepare();
