@@ -1,6 +1,6 @@
 #!/bin/sh
 # Builds the oracle by plain rustc, from the crate's published files over the shims.
-#   build.sh KIND OUT       KIND: checks (overflow checks, assertions) or release; OUT: a folder
+#   build.sh KIND OUT       KIND: checks (overflow checks, assertions), release, or mutant (quick to build); OUT: a folder
 # ORACLE_SRC names the folder that holds the published src/. MUTANT, a name of mutants.txt, changes one line of the copy.
 # What was compiled is compared byte for byte with what is published; without a mutant no difference is allowed.
 set -eu
@@ -12,6 +12,7 @@ mutant=${MUTANT:-}
 case $kind in
 checks) flags="-C opt-level=1 -C overflow-checks=on -C debug-assertions=on" ;;
 release) flags="-C opt-level=3" ;;
+mutant) flags="-C opt-level=0" ;;
 *) echo "oracle: unknown kind $kind" >&2; exit 2 ;;
 esac
 mkdir -p "$out"
@@ -29,14 +30,25 @@ rm -rf "$out/src" && cp -R "$here/src" "$out/src"
 lints="-D warnings"
 [ -z "$mutant" ] || { "$here/mutate.sh" "$mutant" "$out"; lints="--cap-lints allow"; }
 
+# Compiles the library $name from a file, unless nothing that it is made from has changed since it was compiled.
+library() {
+    file=$1
+    shift
+    sum=$(find "$here/build.sh" "$here/shims" "$@" -type f | sort | xargs cat | cksum)
+    if [ -f "$out/lib$name.rlib" ] && [ "$sum" = "$(cat "$out/$name.sum" 2>/dev/null)" ]; then return; fi
+    rm -f "$out/$name.sum"
+    rust --crate-type rlib --crate-name $name $with --cap-lints allow --cfg 'feature="bench-internals"' \
+        --emit link,dep-info "$file"
+    echo "$sum" >"$out/$name.sum"
+}
+
 with=
-for shim in log num_rational cfg_if aligned rayon arrayvec anyhow v_frame av_decoders; do
-    rust --crate-type rlib --crate-name $shim $with "$here/shims/$shim.rs"
-    with="$with --extern $shim=$out/lib$shim.rlib"
+for name in log num_rational cfg_if aligned rayon arrayvec anyhow v_frame av_decoders; do
+    library "$here/shims/$name.rs"
+    with="$with --extern $name=$out/lib$name.rlib"
 done
 for name in scenes fed; do
-    rust --crate-type rlib --crate-name $name $with --cap-lints allow --cfg 'feature="bench-internals"' \
-        --emit link,dep-info "$out/$name/lib.rs"
+    library "$out/$name/lib.rs" "$out/$name"
 done
 rust --crate-type bin --crate-name oracle $with --extern scenes=$out/libscenes.rlib --extern fed=$out/libfed.rlib $lints "$out/src/main.rs"
 

@@ -12,7 +12,7 @@ echo "| Mutant | What it breaks | Comparisons that fail |"
 echo "|---|---|---|"
 for name in ${MUTANTS:-$(sed -n 's/^name: //p' "$here/mutants.txt")}; do
     rule=$(awk -v name="$name" '$1 == "name:" { on = $2 == name } on && $1 == "rule:" { sub(/^rule: /, ""); print }' "$here/mutants.txt")
-    MUTANT=$name "$here/build.sh" release "$out" >"$out.log" 2>&1 || { cat "$out.log" >&2; exit 2; }
+    MUTANT=$name "$here/build.sh" mutant "$out" >"$out.log" 2>&1 || { cat "$out.log" >&2; exit 2; }
     "$out/oracle" "$seed" "$count" 2>/dev/null | "$@" >"$out.log" 2>&1 || true
     first=$(sed -n 's/^failed: \(.*\)/\1/p' "$out.log" | paste -sd, - | sed 's/,/, /g')
     case $first in
