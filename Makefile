@@ -83,11 +83,12 @@ install-command: command
 	install -d '$(DESTDIR)$(PREFIX)/bin'
 	install -m 755 $(COMMAND) '$(DESTDIR)$(PREFIX)/bin/'
 
-run: $(COMMAND)
+run: all
 	@$(RUN) $(COMMAND) demo
 
 check-c: lib $(COMMAND) $(CHECK) $(FILM)
-	@RUN='$(RUN)' NM='$(NM)' COMPILER='$(C_COMPILER)' ARCHIVE='$(ARCHIVE)' COMMAND='$(COMMAND)' CHECK='$(CHECK)' FILM='$(FILM)' sh tests/run.sh
+	@RUN='$(RUN)' NM='$(NM)' COMPILER='$(C_COMPILER)' STATIC='$(STATIC)' \
+	    ARCHIVE='$(ARCHIVE)' COMMAND='$(COMMAND)' CHECK='$(CHECK)' FILM='$(FILM)' sh tests/run.sh
 
 test:
 	.ci/run

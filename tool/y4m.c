@@ -11,8 +11,8 @@ enum { LINE_ROOM = 1024 };
 /* What a header line turned out to be. */
 enum line { LINE_READ, LINE_NONE, LINE_CUT, LINE_LONG, LINE_FAULT };
 
-/* Reads up to a line end into `line`, without it. LINE_NONE: the file ended before the first byte, and `line` is not set.
-   LINE_LONG: no header has such a line, one with a zero byte included. */
+/* Reads up to a line end into `line`, without it. LINE_NONE: the file ended before the first byte, and `line` is not
+   set. LINE_LONG: no header has such a line; one with a zero byte counts as such. */
 static enum line read_line(FILE *file, char line[LINE_ROOM])
 {
     size_t used = 0;
