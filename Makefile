@@ -31,7 +31,8 @@ COMMAND = build/bin/brinepulley
 CHECK = build/tests/check
 FILM = build/tests/film
 
-CRATES = $(shell find crates crates.txt -type f)
+# What the archive comes from: must-fail edits are no part of it.
+CRATES = $(shell find crates crates.txt -name must-fail -prune -o -type f -print)
 TOOL_OBJECTS = $(patsubst %.c,build/%.o,$(wildcard tool/*.c))
 CHECK_OBJECTS = $(patsubst %.c,build/%.o,$(filter-out tests/film.c,$(wildcard tests/*.c)))
 
