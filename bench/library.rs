@@ -1,0 +1,83 @@
+//! The library's C functions, as `include/brinepulley.h` declares them.
+use std::ffi::c_double;
+
+pub struct Lent<'a> {
+    pub samples: &'a [u8],
+    pub width: usize,
+    pub height: usize,
+}
+
+#[rustfmt::skip]
+unsafe extern "C" {
+    fn brine_plane_difference(depth: u32, a: *const u8, a_len: usize, w: usize, h: usize, s: usize, o: usize,
+        b: *const u8, b_len: usize, w2: usize, h2: usize, s2: usize, o2: usize) -> i64;
+    fn brine_importance(depth: u32, a: *const u8, a_len: usize, w: usize, h: usize, s: usize, o: usize,
+        b: *const u8, b_len: usize, w2: usize, h2: usize, s2: usize, o2: usize, importance: *mut c_double) -> i64;
+    fn brine_intra_costs(depth: u32, a: *const u8, a_len: usize, w: usize, h: usize, s: usize, o: usize,
+        work: *mut u8, work_len: usize, w2: usize, h2: usize, s2: usize, o2: usize, costs: *mut u32, len: usize) -> i64;
+    fn brine_hadamard8x8(list: *mut i32, len: usize) -> i64;
+    fn brine_detector_fresh(width: usize, height: usize, depth: u32, lookahead: usize, mode: u32, min: u64, max: u64,
+        numbers: *mut u64, numbers_len: usize, scores: *mut c_double, scores_len: usize) -> i64;
+    fn brine_detector_step(numbers: *mut u64, numbers_len: usize, scores: *mut c_double, scores_len: usize, set_len: usize,
+        frame: u64, previous_keyframe: u64, inter: *const c_double, inter_len: usize, importance: *const c_double,
+        importance_len: usize, threshold: *const c_double, threshold_len: usize) -> i64;
+}
+
+pub fn difference(a: &Lent, b: &Lent) -> i64 {
+    // SAFETY: each pointer is lent with its own length.
+    unsafe {
+        brine_plane_difference(8, a.samples.as_ptr(), a.samples.len(), a.width, a.height, a.width, 0, b.samples.as_ptr(),
+            b.samples.len(), b.width, b.height, b.width, 0)
+    }
+}
+
+pub fn importance(a: &Lent, b: &Lent) -> f64 {
+    let mut out = 0.0;
+    // SAFETY: as above.
+    let answer = unsafe {
+        brine_importance(8, a.samples.as_ptr(), a.samples.len(), a.width, a.height, a.width, 0, b.samples.as_ptr(),
+            b.samples.len(), b.width, b.height, b.width, 0, &mut out)
+    };
+    assert_eq!(answer, 0);
+    out
+}
+
+pub fn intra_costs(a: &Lent, work: &mut [u8], costs: &mut [u32]) -> i64 {
+    // SAFETY: as above.
+    unsafe {
+        brine_intra_costs(8, a.samples.as_ptr(), a.samples.len(), a.width, a.height, a.width, 0, work.as_mut_ptr(),
+            work.len(), a.width, a.height, a.width, 0, costs.as_mut_ptr(), costs.len())
+    }
+}
+
+pub fn hadamard8x8(list: &mut [i32]) {
+    // SAFETY: as above.
+    let answer = unsafe { brine_hadamard8x8(list.as_mut_ptr(), list.len()) };
+    assert_eq!(answer, 0);
+}
+
+pub struct Detector {
+    numbers: [u64; 13],
+    scores: [f64; 80],
+}
+
+impl Detector {
+    pub fn fresh(width: usize, height: usize, lookahead: usize, mode: u32, min: u64, max: u64) -> Self {
+        let mut d = Detector { numbers: [0; 13], scores: [0.0; 80] };
+        // SAFETY: as above.
+        let answer = unsafe {
+            brine_detector_fresh(width, height, 8, lookahead, mode, min, max, d.numbers.as_mut_ptr(), 13,
+                d.scores.as_mut_ptr(), 80)
+        };
+        assert_eq!(answer, 0);
+        d
+    }
+
+    pub fn step(&mut self, set: usize, n: u64, previous: u64, inter: &[f64], importance: &[f64], threshold: &[f64]) -> i64 {
+        // SAFETY: as above.
+        unsafe {
+            brine_detector_step(self.numbers.as_mut_ptr(), 13, self.scores.as_mut_ptr(), 80, set, n, previous,
+                inter.as_ptr(), inter.len(), importance.as_ptr(), importance.len(), threshold.as_ptr(), threshold.len())
+        }
+    }
+}

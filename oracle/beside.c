@@ -1,0 +1,242 @@
+/* Reads cases with the crate's answers from the standard input, gives each to the library, and compares. */
+#include "brinepulley.h"
+#include "cases.h"
+#include "lend.h"
+#include <inttypes.h>
+#include <signal.h>
+#include <stdio.h>
+#include <stdlib.h>
+#include <string.h>
+#include <unistd.h>
+
+uint64_t record, passed, failed, refusals;
+static uint64_t *payload, *cursor, *limit;
+static size_t room;
+
+static void stop(const char *why)
+{
+    fprintf(stderr, "beside: record %" PRIu64 ": %s\n", record, why);
+    exit(2);
+}
+
+static void take(void *to, size_t size)
+{
+    if (fread(to, 1, size, stdin) != size) stop("the cases end too early");
+}
+
+enum kind next_record(void)
+{
+    uint64_t head[2];
+    take(head, sizeof head);
+    if (head[1] > room) {
+        room = head[1] + 1024;
+        payload = realloc(payload, room * sizeof *payload);
+        if (payload == NULL) stop("no memory");
+    }
+    take(payload, head[1] * sizeof *payload);
+    cursor = payload;
+    limit = payload + head[1];
+    record++;
+    lend_place(record & 1, record / 2 % 16);
+    return (enum kind)head[0];
+}
+
+const uint64_t *words(size_t count)
+{
+    if ((size_t)(limit - cursor) < count) stop("a record is too short");
+    cursor += count;
+    return cursor - count;
+}
+
+uint64_t word(void) { return *words(1); }
+int64_t answer(void) { return (int64_t)word(); }
+
+const void *bytes(size_t *count)
+{
+    *count = word();
+    return words((*count + 7) / 8);
+}
+
+const uint32_t *halves(size_t *count)
+{
+    *count = word();
+    return (const uint32_t *)words((*count + 1) / 2);
+}
+
+const double *reals(size_t *count)
+{
+    *count = word();
+    return (const double *)words(*count);
+}
+
+int same(double a, double b) { return (a != a && b != b) || memcmp(&a, &b, sizeof a) == 0; }
+
+/* How many comparisons of each kind failed, by the words that name the kind. */
+static struct {
+    const char *what;
+    uint64_t count;
+} failures[16];
+
+void verdict(int ok, const char *what, int64_t due, int64_t got)
+{
+    refusals += due < 0;
+    if (ok) {
+        passed++;
+        return;
+    }
+    size_t i = 0;
+    while (failures[i].what != NULL && strcmp(failures[i].what, what) != 0) i++;
+    failures[i].what = what;
+    failures[i].count++;
+    if (failed++ < 10)
+        printf("record %" PRIu64 ": %s: due %" PRId64 ", got %" PRId64 "%s\n", record, what, due, got,
+               due == got ? ", but what was written differs" : "");
+}
+
+enum measure { M_SCALE, M_DIFFERENCE, M_TOTAL, M_DELTA, M_IMPORTANCE, M_INTRA, M_THRESHOLD, M_4X4, M_8X8, M_SATD, MEASURES };
+static const char *const measures[MEASURES] = {"scale factor", "plane difference", "importance total", "delta", "importance",
+    "intra costs", "threshold", "transform of 4x4", "transform of 8x8", "SATD"};
+static uint64_t measured[MEASURES];
+
+/* One measure was compared. */
+static void measure(enum measure m, int ok, int64_t due, int64_t got)
+{
+    measured[m] += due >= 0;
+    verdict(ok && due == got, measures[m], due, got);
+}
+
+static void scale(void)
+{
+    const uint64_t *n = words(3);
+    int64_t due = answer(), got = brine_scale_factor(n[0], n[1], (uint32_t)n[2]);
+    measure(M_SCALE, 1, due, got);
+}
+
+struct plane {
+    uint64_t width, height, stride, origin;
+    const uint8_t *samples;
+    size_t len;
+    uint8_t *lent;
+};
+
+static struct plane plane(enum slot slot)
+{
+    struct plane p = {word(), word(), word(), word(), NULL, 0, NULL};
+    p.samples = bytes(&p.len);
+    p.lent = lend(slot, p.samples, p.len, 1);
+    return p;
+}
+
+#define AS_LENT(p) (p).lent, (p).len, (p).width, (p).height, (p).stride, (p).origin
+
+static void planes(void)
+{
+    uint32_t depth = (uint32_t)word();
+    struct plane a = plane(FIRST), b = plane(SECOND);
+    int64_t due[4], got[4];
+    double value[2];
+    const double before = 12345.5;
+    for (int i = 0; i < 4; i++) due[i] = answer();
+    memcpy(value, words(2), sizeof value);
+    got[0] = brine_plane_difference(depth, AS_LENT(a), AS_LENT(b));
+    got[1] = brine_importance_total(depth, AS_LENT(a), AS_LENT(b));
+    for (int i = 0; i < 4; i++) {
+        int ok = 1;
+        if (i >= 2) {
+            double *out = lend(OUT, &before, sizeof before, 8);
+            got[i] = i == 2 ? brine_delta(depth, AS_LENT(a), AS_LENT(b), out)
+                            : brine_importance(depth, AS_LENT(a), AS_LENT(b), out);
+            ok = same(*out, due[i] < 0 ? before : value[i - 2]) && guarded(OUT);
+        }
+        ok = ok && holds(FIRST, a.samples) && holds(SECOND, b.samples);
+        measure(M_DIFFERENCE + i, ok, due[i], got[i]);
+    }
+}
+
+static void intra(void)
+{
+    uint32_t depth = (uint32_t)word();
+    struct plane a = plane(FIRST), work = plane(SECOND);
+    size_t costs_len, same_len;
+    const uint32_t *costs = halves(&costs_len);
+    int64_t due = answer();
+    const void *work_after = bytes(&same_len);
+    const uint32_t *costs_after = halves(&same_len);
+    uint32_t *lent = lend(COSTS, costs, costs_len * sizeof *costs, 4);
+    int64_t got = brine_intra_costs(depth, AS_LENT(a), AS_LENT(work), lent, costs_len);
+    measure(M_INTRA, holds(FIRST, a.samples) && holds(SECOND, work_after) && holds(COSTS, costs_after), due, got);
+}
+
+static void threshold(void)
+{
+    size_t len;
+    const double before = 12345.5;
+    const uint32_t *costs = halves(&len);
+    size_t count = word();
+    int64_t due = answer();
+    double value;
+    memcpy(&value, words(1), sizeof value);
+    const uint32_t *lent = lend(COSTS, costs, len * sizeof *costs, 4);
+    double *out = lend(OUT, &before, sizeof before, 8);
+    int64_t got = brine_threshold(lent, len, count, out);
+    measure(M_THRESHOLD, same(*out, due < 0 ? before : value) && guarded(OUT) && holds(COSTS, costs), due, got);
+}
+
+static void hadamard(void)
+{
+    size_t len, same_len;
+    uint64_t side = word();
+    const uint32_t *list = halves(&len);
+    int64_t due = answer();
+    const uint32_t *after = halves(&same_len);
+    int32_t *lent = lend(COSTS, list, len * sizeof *list, 4);
+    int64_t got = side == 4 ? brine_hadamard4x4(lent, len) : brine_hadamard8x8(lent, len);
+    measure(side == 4 ? M_4X4 : M_8X8, holds(COSTS, after), due, got);
+}
+
+static void satd(void)
+{
+    size_t len, len2;
+    const void *a = bytes(&len), *b = bytes(&len2);
+    int64_t due = answer();
+    int64_t got = brine_satd8x8(lend(FIRST, a, len, 1), len, lend(SECOND, b, len2, 1), len2);
+    measure(M_SATD, holds(FIRST, a) && holds(SECOND, b), due, got);
+}
+
+static void faulted(int number)
+{
+    char line[64];
+    int n = snprintf(line, sizeof line, "record %" PRIu64 ": signal %d\n0 passed, 1 failed\n", record, number);
+    if (n > 0 && write(1, line, (size_t)n) < 0) _exit(4);
+    _exit(1);
+}
+
+int main(void)
+{
+    static char buffer[1 << 18];
+    setvbuf(stdin, buffer, _IOFBF, sizeof buffer);
+    signal(SIGSEGV, faulted);
+    signal(SIGBUS, faulted);
+    for (enum kind kind; (kind = next_record()) != END;) switch (kind) {
+        case SCALE: scale(); break;
+        case PLANES: planes(); break;
+        case INTRA: intra(); break;
+        case THRESHOLDS: threshold(); break;
+        case HADAMARD: hadamard(); break;
+        case SATD: satd(); break;
+        case FRESH: detector_fresh(); break;
+        case STATE: detector_state(); break;
+        case STEP: detector_step(); break;
+        case FILM: whole_film(); break;
+        default: stop("an unknown kind of record");
+        }
+    if (word() != record - 1) stop("the number of records is not the one announced");
+    printf("compared: %" PRIu64 " detector calls with %" PRIu64 " cuts, %" PRIu64 " whole films of %" PRIu64 " frames, %" PRIu64
+           " refusals\n", calls, cuts, films, film_frames, refusals);
+    printf("compared:");
+    for (int i = 0; i < MEASURES; i++) printf("%s %s %" PRIu64, i == 0 ? "" : ",", measures[i], measured[i]);
+    printf("\n");
+    for (size_t i = 0; failures[i].what != NULL; i++) printf("failed: %s %" PRIu64 "\n", failures[i].what, failures[i].count);
+    printf("%" PRIu64 " passed, %" PRIu64 " failed\n", passed, failed);
+    return failed != 0;
+}

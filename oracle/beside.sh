@@ -1,0 +1,36 @@
+#!/bin/sh
+# Runs both builds of the oracle against the library, and whole films against the command.
+#   beside.sh SEED COUNT OUT COMMAND DRIVER [EMULATOR]
+# Ends with 'N passed, 0 failed', or fails. A difference between the crate and the reading of document 01 fails too.
+set -eu
+here=$(cd "$(dirname "$0")" && pwd -P)
+seed=$1 count=$2 out=$3 command=$4 driver=$5 emulator=${6:-}
+passed=0 failed=0
+
+# Adds the last line of a file, 'N passed, M failed'.
+add() {
+    last=$(tail -n 1 "$1")
+    case $last in
+    *" passed, "*" failed") ;;
+    *) echo "beside: the comparison did not end"; last="0 passed, 1 failed" ;;
+    esac
+    passed=$((passed + ${last%% passed*}))
+    last=${last#* passed, }
+    failed=$((failed + ${last% failed}))
+}
+
+for kind in checks release; do
+    echo "== the library beside the crate, built with $kind =="
+    rm -f "$out/status"
+    { "$out/$kind/oracle" "$seed" "$count" 2>"$out/$kind.log" || echo $? >"$out/status"; } |
+        $emulator "$driver" >"$out/$kind.txt" || true
+    cat "$out/$kind.log" "$out/$kind.txt"
+    add "$out/$kind.txt"
+    [ ! -f "$out/status" ] || { echo "beside: the oracle itself failed ($(cat "$out/status"))"; failed=$((failed + 1)); }
+done
+echo "== the command beside the crate's own driver: whole films =="
+"$here/decide.sh" "$out/release/oracle" "$seed" "${FILMS:-50}" "$out/decide" $emulator "$command" >"$out/decide.txt" || true
+cat "$out/decide.txt"
+add "$out/decide.txt"
+echo "$passed passed, $failed failed"
+[ "$failed" -eq 0 ]

@@ -1,0 +1,187 @@
+/* The detector's part of the comparison: fresh, step, and whole films as the crate's driver walks over them. */
+#include "brinepulley.h"
+#include "cases.h"
+#include "lend.h"
+#include <stdlib.h>
+#include <string.h>
+
+enum { NUMBERS_LEN = 13, SCORES_LEN = 80, OFFSET = 7, COUNT = 12, ENTRY = 5 };
+
+uint64_t calls, cuts, films, film_frames;
+/* The state as it should be: what the port has written so far, as the crate says. */
+static uint64_t numbers[NUMBERS_LEN];
+static double scores[SCORES_LEN];
+
+/* Room for lengths that are no state's: the places are lent longer than a state is. */
+enum { MORE = 80 };
+static uint64_t wide_numbers[MORE];
+static double wide_scores[SCORES_LEN + 8];
+
+static void lend_state(size_t numbers_len, size_t scores_len)
+{
+    size_t n = numbers_len < NUMBERS_LEN ? numbers_len : NUMBERS_LEN;
+    size_t s = scores_len < SCORES_LEN ? scores_len : SCORES_LEN;
+    memcpy(wide_numbers, numbers, n * sizeof *numbers);
+    memcpy(wide_scores, scores, s * sizeof *scores);
+    lend(NUMBERS, wide_numbers, numbers_len * sizeof *numbers, 8);
+    lend(SCORES, wide_scores, scores_len * sizeof *scores, 8);
+}
+
+void detector_state(void)
+{
+    size_t len;
+    memcpy(numbers, words(NUMBERS_LEN), sizeof numbers);
+    memcpy(scores, reals(&len), sizeof scores);
+}
+
+void detector_fresh(void)
+{
+    const uint64_t *n = words(7);
+    size_t numbers_len = word(), scores_len = word();
+    int64_t due = answer();
+    const uint64_t *after = words(NUMBERS_LEN);
+    lend_state(numbers_len, scores_len);
+    uint64_t *lent = lend(NUMBERS, wide_numbers, numbers_len * sizeof *numbers, 8);
+    double *places = lend(SCORES, wide_scores, scores_len * sizeof *scores, 8);
+    int64_t got = brine_detector_fresh(n[0], n[1], (uint32_t)n[2], n[3], (uint32_t)n[4], n[5], n[6], lent, numbers_len, places,
+                                       scores_len);
+    if (due == 0) memcpy(numbers, after, sizeof numbers);
+    verdict(due == got && holds(NUMBERS, due == 0 ? numbers : wide_numbers) && holds(SCORES, wide_scores), "fresh detector",
+            due, got);
+}
+
+struct list {
+    const double *items;
+    size_t len;
+    double *lent;
+};
+
+static struct list list(enum slot slot)
+{
+    struct list l;
+    l.items = reals(&l.len);
+    l.lent = lend(slot, l.items, l.len * sizeof *l.items, 8);
+    return l;
+}
+
+/* The entries below the count are those given; the places behind them are as before the call. */
+static int entries_as(const double *lent, const double *due, size_t count)
+{
+    for (size_t i = 0; i < count * ENTRY; i++)
+        if (!same(lent[i], due[i])) return 0;
+    return memcmp(lent + count * ENTRY, scores + count * ENTRY, (SCORES_LEN - count * ENTRY) * sizeof *scores) == 0;
+}
+
+void detector_step(void)
+{
+    size_t numbers_len = word(), scores_len = word(), set = word(), len, score_len;
+    uint64_t frame = word(), previous = word();
+    struct list inter = list(INTER), importance = list(IMPORTANCE), threshold = list(THRESHOLD);
+    int64_t due = answer();
+    lend_state(numbers_len, scores_len);
+    uint64_t *lent = lend(NUMBERS, wide_numbers, numbers_len * sizeof *numbers, 8);
+    double *places = lend(SCORES, wide_scores, scores_len * sizeof *scores, 8);
+    int64_t got = brine_detector_step(lent, numbers_len, places, scores_len, set, frame, previous, inter.lent, inter.len,
+                                      importance.lent, importance.len, threshold.lent, threshold.len);
+    int ok = due == got && holds(INTER, inter.items) && holds(IMPORTANCE, importance.items) &&
+             holds(THRESHOLD, threshold.items) && guarded(NUMBERS) && guarded(SCORES);
+    if (due < 0) {
+        ok = ok && holds(NUMBERS, wide_numbers) && holds(SCORES, wide_scores);
+    } else {
+        const uint64_t *after = words(NUMBERS_LEN);
+        const double *entries = reals(&len);
+        ok = ok && memcmp(lent, after, sizeof numbers) == 0 && entries_as(places, entries, len / ENTRY);
+        const double *score = reals(&score_len);
+        for (size_t i = 0; ok && i < score_len; i++) ok = same(places[lent[OFFSET] * ENTRY + i], score[i]);
+        memcpy(numbers, after, sizeof numbers);
+        memcpy(scores, entries, len * sizeof *scores);
+        calls++;
+        cuts += (uint64_t)due & 1;
+    }
+    verdict(ok, "step", due, got);
+}
+
+struct frame {
+    uint64_t width, height, stride, origin;
+    const uint8_t *samples;
+    size_t len;
+    double inter, importance, threshold;
+};
+
+#define AS_LENT(f) (f).samples, (f).len, (f).width, (f).height, (f).stride, (f).origin
+
+/* The measures of the pair that the frame ends, by the library: in Fast mode the delta, in Standard all but the inter cost. */
+static int measure(uint64_t mode, const struct frame *before, struct frame *f)
+{
+    if (mode == 1) return brine_delta(8, AS_LENT(*before), AS_LENT(*f), &f->inter) == 0;
+    if (mode == 0) return 1;
+    size_t room = (f->width / 8) * (f->height / 8);
+    uint32_t *costs = malloc(room * sizeof *costs + 1);
+    uint8_t *work = malloc(f->len + 1);
+    if (costs == NULL || work == NULL) abort();
+    int64_t blocks = brine_intra_costs(8, AS_LENT(*f), work, f->len, f->width, f->height, f->stride, f->origin, costs, room);
+    int ok = blocks == (int64_t)room && brine_threshold(costs, room, room, &f->threshold) == 0 &&
+             brine_importance(8, AS_LENT(*before), AS_LENT(*f), &f->importance) == 0;
+    free(costs);
+    free(work);
+    return ok;
+}
+
+static struct frame frame(void)
+{
+    struct frame f = {word(), word(), word(), word(), NULL, 0, 0, 0, 0};
+    f.samples = bytes(&f.len);
+    memcpy(&f.inter, words(1), sizeof f.inter);
+    return f;
+}
+
+/* The library's answers for one call of the driver against the crate's: is frame n a cut, and its score. */
+static int film_call(struct frame *f, size_t count, size_t n, size_t ahead, uint64_t *previous, int cut,
+                     const double *score)
+{
+    double inter[16], importance[16], threshold[16];
+    size_t set = count - (n - 1) < ahead + 2 ? count - (n - 1) : ahead + 2;
+    for (size_t k = 0; k + 1 < set; k++) {
+        inter[k] = f[n + k].inter;
+        importance[k] = f[n + k].importance;
+        threshold[k] = f[n + k].threshold;
+    }
+    int64_t got = brine_detector_step(numbers, NUMBERS_LEN, scores, SCORES_LEN, set, n, *previous, inter, set - 1, importance,
+                                      set - 1, threshold, set - 1);
+    int ok = got == cut + (score != NULL ? 2 : 0);
+    for (int i = 0; ok && score != NULL && i < ENTRY; i++) ok = same(scores[numbers[OFFSET] * ENTRY + i], score[i]);
+    if (got >= 0 && (got & 1)) *previous = n;
+    return ok;
+}
+
+void whole_film(void)
+{
+    const uint64_t *s = words(7);
+    size_t count = word();
+    struct frame *f = calloc(count + 1, sizeof *f);
+    if (f == NULL) abort();
+    for (size_t i = 0; i < count; i++) f[i] = frame();
+    size_t cut_count = word();
+    const uint64_t *cut = words(cut_count);
+    size_t score_count = word();
+    const uint64_t *score = words(score_count * (1 + ENTRY));
+    int ok = 1;
+    for (size_t i = 1; i < count; i++) ok = ok && measure(s[4], &f[i - 1], &f[i]);
+    ok = ok && brine_detector_fresh(s[0], s[1], (uint32_t)s[2], s[3], (uint32_t)s[4], s[5], s[6], numbers, NUMBERS_LEN, scores,
+                                    SCORES_LEN) == 0;
+    /* The crate's first frame is a keyframe; its scores come in the order of their frames. */
+    uint64_t previous = 0;
+    size_t next_cut = 1, next_score = 0, n;
+    for (n = 1; ok && n < count; n++) {
+        int is_cut = next_cut < cut_count && cut[next_cut] == n;
+        int has_score = next_score < score_count && score[next_score * (1 + ENTRY)] == n;
+        ok = film_call(f, count, n, s[3], &previous, is_cut, has_score ? (const double *)&score[next_score * (1 + ENTRY) + 1] : NULL);
+        next_cut += (size_t)is_cut;
+        next_score += (size_t)has_score;
+    }
+    ok = ok && next_cut == cut_count && next_score == score_count;
+    films++;
+    film_frames += count;
+    verdict(ok, "whole film", (int64_t)count, (int64_t)n);
+    free(f);
+}

@@ -1,0 +1,33 @@
+/* The stream of cases, and the count of what was compared. */
+#ifndef CASES_H
+#define CASES_H
+#include <stddef.h>
+#include <stdint.h>
+
+enum kind { END, SCALE, PLANES, INTRA, THRESHOLDS, HADAMARD, SATD, FRESH, STATE, STEP, FILM };
+
+/* The record at hand: its number and what is left of its words. */
+extern uint64_t record;
+
+uint64_t word(void);
+int64_t answer(void);
+/* A list of so many 64-bit words, or of bytes or 32-bit numbers packed into words. */
+const uint64_t *words(size_t count);
+const void *bytes(size_t *count);
+const uint32_t *halves(size_t *count);
+const double *reals(size_t *count);
+
+/* Reads the next record, and gives its kind. */
+enum kind next_record(void);
+/* 1 if both are NaN, or have the same bits. */
+int same(double a, double b);
+/* One call of the library was compared. `due` is what it should answer. */
+void verdict(int ok, const char *what, int64_t due, int64_t got);
+extern uint64_t passed, failed, refusals;
+
+void detector_fresh(void);
+void detector_state(void);
+void detector_step(void);
+void whole_film(void);
+extern uint64_t calls, cuts, films, film_frames;
+#endif

@@ -1,0 +1,127 @@
+//! Calls that are refused. The reading says with which number; the crate is given the same call where it can be.
+use crate::detector_cases::{Desk, LENGTHS, put_call, put_state};
+use crate::random::Random;
+use crate::reading::{self, COUNT, Call, LAST, LENGTH, OFFSET, State};
+use crate::run::ask_refused;
+use crate::tally::Ran;
+use crate::values::{bad_inter, bad_other};
+
+const ODD: [u64; 6] = [0, 7, 9, 10, 1 << 32, u64::MAX];
+
+/// Settings and lengths of the state's places, with something wrong in most of them.
+pub fn settings(r: &mut Random, mut n: [u64; 7]) -> ([u64; 7], (u64, u64)) {
+    let mut lengths = LENGTHS;
+    for _ in 0..1 + r.below(2) {
+        match r.below(5) {
+            0 => n[0] = r.of(&[0, 8193, u64::MAX]),
+            1 => n[1] = r.of(&[0, 8193, 1 << 33]),
+            2 => n[2] = r.of(&[0, 7, 9, 10, 16, u64::from(u32::MAX)]),
+            3 => n[4] = r.of(&[3, 4, u64::from(u32::MAX)]),
+            _ => lengths = odd_lengths(r),
+        }
+    }
+    (n, lengths)
+}
+
+fn odd_lengths(r: &mut Random) -> (u64, u64) {
+    r.of(&[(12, 80), (14, 80), (13, 79), (13, 81), (0, 0), (13, 0), (0, 80), (80, 13)])
+}
+
+/// One wrong thing in a state.
+fn state(r: &mut Random, s: &mut State) {
+    let count = s.numbers[COUNT];
+    match r.below(8) {
+        0 => s.numbers[0] = r.of(&[0, 8193, u64::MAX, (1 << 32) + 16]),
+        1 => s.numbers[1] = r.of(&[0, 8193, u64::MAX, (1 << 32) + 16]),
+        2 => s.numbers[2] = r.of(&[0, 7, 10, (1 << 32) + 8, u64::MAX]),
+        3 => s.numbers[4] = r.of(&[3, (1 << 32) + 1, (1 << 32) + 2, 1 << 32, u64::MAX]),
+        4 => s.numbers[OFFSET] = r.of(&[0, count, count.wrapping_add(1), u64::MAX, count.wrapping_sub(1).wrapping_add(1 << 32)]),
+        5 => {
+            // Too many entries, and nothing else that is wrong with them.
+            s.numbers[COUNT] = r.of(&[16, 16, 17, 11, 11, 15, count.wrapping_add(1 << 32), u64::MAX, 0]);
+            s.places.chunks_mut(5).for_each(|e| e[0] = 1.0);
+        }
+        _ => {
+            let at = r.below(count.clamp(1, 16)) as usize;
+            s.places[at * 5] = bad_inter(r);
+        }
+    }
+}
+
+/// One wrong thing in a call.
+fn call(r: &mut Random, s: &State, c: &mut Call) {
+    let n = c.frame;
+    match r.below(9) {
+        0 => c.frame = r.of(&[0, n.wrapping_add(1), n.wrapping_sub(1), 1 << 32, u64::MAX, n.wrapping_add(1 << 32)]),
+        1 => c.previous = r.of(&[n.wrapping_add(1), u64::MAX, 1 << 40]),
+        2 => c.set = r.of(&[17, u64::MAX, 1 << 32, 1 << 63, c.set.wrapping_add(1 << 32)]),
+        3 => {
+            // A longer set, its lists as long as they should be.
+            let free = s.numbers[LAST] == 0 || s.numbers[LENGTH] > 16;
+            let longer = if free { 17 } else { s.numbers[LENGTH] + 1 };
+            c.set = longer;
+            for list in [&mut c.inter, &mut c.importance, &mut c.threshold] {
+                list.resize(longer as usize - 1, 1.0);
+            }
+        }
+        4 => {
+            let list = r.below(3);
+            let list = [&mut c.inter, &mut c.importance, &mut c.threshold].into_iter().nth(list as usize).unwrap();
+            match r.below(3) {
+                0 => list.push(1.0),
+                1 => drop(list.pop()),
+                _ => list.clear(),
+            }
+        }
+        5 | 6 => {
+            let at = r.below(c.inter.len().max(1) as u64) as usize;
+            if let Some(x) = c.inter.get_mut(at) {
+                *x = bad_inter(r);
+            }
+        }
+        7 => {
+            let list = if r.once_in(2) { &mut c.importance } else { &mut c.threshold };
+            let at = r.below(list.len().max(1) as u64) as usize;
+            if let Some(x) = list.get_mut(at) {
+                *x = bad_other(r);
+            }
+        }
+        _ => {
+            c.set = 1;
+            for list in [&mut c.inter, &mut c.importance, &mut c.threshold] {
+                list.clear();
+            }
+        }
+    }
+}
+
+/// A call like the one given, damaged in one or more ways, if the reading refuses it.
+pub fn step(desk: &mut Desk, r: &mut Random, s: &State, c: &Call) {
+    let (mut hurt, mut c, mut lengths) = (s.clone(), c.clone(), LENGTHS);
+    for _ in 0..r.of(&[1, 1, 1, 2, 3]) {
+        match r.below(12) {
+            0 => lengths = odd_lengths(r),
+            1..=3 => state(r, &mut hurt),
+            4 => hurt.numbers[r.below(3) as usize] = r.of(&ODD),
+            _ => call(r, s, &mut c),
+        }
+    }
+    let fault = reading::step_fault(lengths, &hurt, &c);
+    if fault == 0 {
+        return;
+    }
+    put_state(desk, &hurt);
+    refused(desk, lengths, &hurt, &c, fault);
+    put_state(desk, s);
+}
+
+/// Writes a refused call, and gives it to the crate.
+pub fn refused(desk: &mut Desk, lengths: (u64, u64), s: &State, c: &Call, fault: u32) {
+    let ran = match ask_refused(s, c, fault) {
+        None => Ran::NotAsked,
+        Some(true) => Ran::Through,
+        Some(false) => Ran::Stopped,
+    };
+    desk.tally.refusal(fault, ran);
+    put_call(desk, lengths, c, -i64::from(fault), s, None);
+}

@@ -1,0 +1,65 @@
+//! Whole films for the command `brinepulley decide`: the film as a file, and what the command wrote about it.
+use std::fs;
+use std::io::{self, Write, stdin};
+
+use crate::films::{Film, score};
+use crate::random::Random;
+use crate::values::same;
+
+fn film(seed: &str) -> Film {
+    Film::draw(&mut Random::new(seed.parse().expect("a number")))
+}
+
+/// Writes film.y4m, its inter costs, and the command's words.
+pub fn write(seed: &str, folder: &str) -> io::Result<()> {
+    let Film { settings: [width, height, _, ahead, mode, min, max], frames } = film(seed);
+    let mut y4m = fs::File::create(format!("{folder}/film.y4m"))?;
+    writeln!(y4m, "YUV4MPEG2 W{width} H{height} F1:600 Ip A1:1 Cmono")?;
+    for f in &frames {
+        y4m.write_all(b"FRAME\n")?;
+        y4m.write_all(&f.y_plane.samples)?;
+    }
+    let costs: Vec<String> = frames.iter().skip(1).map(|f| format!("{:e}\n", f.fed.inter)).collect();
+    fs::write(format!("{folder}/film.inter"), costs.concat())?;
+    let name = ["none", "fast", "standard"][mode as usize];
+    let inter = if mode == 2 { " --inter film.inter" } else { "" };
+    let words = format!("decide film.y4m --csv --mode {name} --lookahead {ahead} --min {min} --max {max}{inter}\n");
+    fs::write(format!("{folder}/film.words"), words)
+}
+
+/// Whether the lines on the standard input are what the crate finds: number, cut, five numbers, release number.
+pub fn compare(seed: &str) -> bool {
+    let film = film(seed);
+    let Some(found) = film.found() else { return false };
+    let lines: Vec<String> = stdin().lines().map_while(Result::ok).skip(1).collect();
+    let count = film.frames.len();
+    let mut release = 0;
+    let mut good = lines.len() == count;
+    for (n, line) in lines.iter().enumerate() {
+        let [.., ahead, mode, _, _] = film.settings;
+        let set = (count + 1 - n).min(ahead as usize + 2);
+        if n > 0 {
+            let late = set >= 7 && ahead >= 5 && mode != 0;
+            release = if late { n.saturating_sub(9).max(1) } else { release.max(1) };
+        }
+        let cut = found.scene_changes.contains(&n);
+        let due = found.scores.get(&n).map(score);
+        if !line_is(line, n, cut, due, release) {
+            println!("seed {seed}, frame {n}: cut {cut}, score {due:?}, release number {release}; the command wrote {line}");
+            good = false;
+        }
+    }
+    good
+}
+
+fn line_is(line: &str, n: usize, cut: bool, due: Option<[f64; 5]>, release: usize) -> bool {
+    let parts: Vec<&str> = line.split(',').collect();
+    let head = format!("{n},{}", i32::from(cut));
+    if parts.len() != 8 || parts[..2].join(",") != head || parts[7] != release.to_string() {
+        return false;
+    }
+    match due {
+        None => parts[2..7].iter().all(|p| p.is_empty()),
+        Some(s) => s.iter().zip(&parts[2..7]).all(|(x, p)| p.parse().is_ok_and(|y: f64| same(*x, y))),
+    }
+}

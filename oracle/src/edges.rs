@@ -1,0 +1,97 @@
+//! Document 01's values at the edges, the starred ones and the others.
+use crate::detector_cases::{Desk, LENGTHS, accepted, put_state};
+use crate::list_cases::{satd_of, scale_of};
+use crate::measures_reading::Lent;
+use crate::plane_cases::{intra_of, pair_of};
+use crate::random::Random;
+use crate::reading::{self, FAST, LAST, LENGTH, NONE, NUMBERS, SCORES, STANDARD, State};
+use crate::run::Film;
+
+fn flat(width: u64, height: u64, value: u8) -> Lent {
+    Lent { samples: vec![value; (width * height) as usize], width, height, stride: width, origin: 0 }
+}
+
+/// A block whose samples add up to `sum`.
+fn summing(sum: usize) -> Lent {
+    let mut l = flat(8, 8, 0);
+    l.samples[..sum].fill(1);
+    l
+}
+
+fn measures(desk: &mut Desk) {
+    for (side, mode) in [(240, 1), (241, 1), (1600, 1), (1601, 1), (1601, 2), (8192, 1), (1, 1), (0, 1), (8193, 0)] {
+        scale_of(desk, side, 8192, mode);
+    }
+    for value in [6, 7] {
+        pair_of(desk, 8, &flat(8, 8, 0), &flat(8, 8, value));
+    }
+    for sum in [31, 32] {
+        pair_of(desk, 8, &flat(8, 8, 0), &summing(sum));
+    }
+    pair_of(desk, 8, &flat(15, 8, 1), &flat(15, 8, 200));
+    pair_of(desk, 8, &flat(7, 8, 1), &flat(7, 8, 200));
+    pair_of(desk, 8, &flat(8192, 1, 0), &flat(8192, 1, 255));
+    pair_of(desk, 8, &flat(8193, 1, 0), &flat(8193, 1, 255));
+    let mut one = [128u8; 64];
+    one[27] = 129;
+    for block in [[128; 64], [0; 64], [255; 64], one] {
+        satd_of(desk, &block, &[128; 64]);
+        let plane = Lent { samples: block.to_vec(), ..flat(8, 8, 0) };
+        intra_of(desk, 8, &plane, &flat(8, 8, 3), &[9, 9]);
+    }
+    intra_of(desk, 8, &flat(15, 17, 4), &flat(15, 17, 3), &[9, 9]);
+    intra_of(desk, 8, &flat(7, 8, 4), &flat(7, 8, 3), &[]);
+}
+
+fn fresh(settings: [u64; 7]) -> State {
+    let mut s = State { numbers: [0; NUMBERS], places: [0.5; SCORES] };
+    s.numbers[..7].copy_from_slice(&settings);
+    s.put(s.ahead(), &[]);
+    s
+}
+
+/// A first call with fixed measures.
+fn first(desk: &mut Desk, settings: [u64; 7], set: u64, n: u64, previous: u64, fed: [f64; 3]) {
+    let s = fresh(settings);
+    let film = Film::fixed(&s, n, fed);
+    let c = film.call(&mut Random::new(0), STANDARD, set, n, previous);
+    put_state(desk, &s);
+    assert!(reading::step_fault(LENGTHS, &s, &c) == 0);
+    accepted(desk, &film, Some(&mut film.placed(&s, n)), &s, &c);
+}
+
+fn calls(desk: &mut Desk) {
+    let never = 1000;
+    for distance in [4, 5] {
+        first(desk, [64, 64, 8, 0, NONE, 5, 3], 1, 9, 9 - distance, [0.0; 3]);
+    }
+    for threshold in [10.0, 0.0] {
+        first(desk, [64, 64, 8, 4, STANDARD, 0, never], 2, 1, 0, [1000.0, 50.0, threshold]);
+    }
+    first(desk, [64, 64, 8, 4, FAST, 0, never], 2, 1, 0, [20.0, 0.0, 0.0]);
+    first(desk, [64, 64, 8, 5, STANDARD, 0, never], 5, 1, 0, [1.0, 50.0, 0.0]);
+    for n in [5, 1] {
+        first(desk, [64, 64, 8, 5, STANDARD, 0, never], 7, n, 0, [1.0, 50.0, 0.0]);
+    }
+    // 16 frames without lookahead leave 15 entries.
+    for mode in [FAST, STANDARD] {
+        first(desk, [64, 64, 8, 0, mode, 0, never], 16, 1, 0, [19.0, 50.0, 0.0]);
+        first(desk, [640, 480, 8, 0, mode, 0, never], 16, 1, 0, [19.0, 50.0, 0.0]);
+    }
+}
+
+/// A detector that ends: no number after 2^32 − 1 is accepted.
+fn last_number(desk: &mut Desk) {
+    let mut s = fresh([64, 64, 8, 5, NONE, 0, 0]);
+    (s.numbers[LAST], s.numbers[LENGTH]) = ((1 << 32) - 1, 16);
+    let film = Film::fixed(&s, 1 << 32, [0.0; 3]);
+    let c = film.call(&mut Random::new(0), STANDARD, 7, 1 << 32, 0);
+    put_state(desk, &s);
+    crate::damage::refused(desk, LENGTHS, &s, &c, reading::step_fault(LENGTHS, &s, &c));
+}
+
+pub fn all(desk: &mut Desk) {
+    measures(desk);
+    calls(desk);
+    last_number(desk);
+}

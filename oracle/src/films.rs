@@ -1,0 +1,112 @@
+//! Whole films of real planes through the crate's own driver, `detect_scene_changes`, with nothing replaced but the
+//! motion search: the inter costs are given.
+use num_rational::Rational32;
+use scenes::{Decoder, DetectionOptions, DetectionResults, SceneDetectionSpeed, ScenecutResult, detect_scene_changes};
+use v_frame::{
+    chroma::ChromaSubsampling,
+    frame::{Fed, Frame},
+    plane::{Plane, PlaneGeometry},
+};
+
+use crate::detector_cases::Desk;
+use crate::random::Random;
+use crate::stream::Kind;
+
+type Scenes = scenes::SceneChangeDetector<u8>;
+
+fn speed(mode: u64) -> SceneDetectionSpeed {
+    match mode {
+        0 => SceneDetectionSpeed::None,
+        1 => SceneDetectionSpeed::Fast,
+        _ => SceneDetectionSpeed::Standard,
+    }
+}
+
+/// The crate's detector, nothing replaced: width, height, depth, lookahead, mode, min, max.
+pub fn detector(n: &[u64; 7]) -> Scenes {
+    let [width, height, depth, ahead, _, min, max] = n.map(|x| x as usize);
+    let rate = Rational32(1, 600);
+    Scenes::new((width, height), depth, rate, ChromaSubsampling::Monochrome, ahead, speed(n[4]), min, max)
+}
+
+/// Scenes of some frames each, which drift a little, with a flash here and there.
+fn planes(r: &mut Random, width: usize, height: usize, frames: u64) -> Vec<Plane<u8>> {
+    let shape = PlaneGeometry { width, height, stride: width, origin: 0 };
+    let (mut base, mut spread) = (r.below(200), 1 + r.below(56));
+    let list = (0..frames).map(|_| {
+        if r.once_in(7) {
+            (base, spread) = (r.below(200), 1 + r.below(56));
+        }
+        let light = if r.once_in(9) { 255 } else { base };
+        let samples = (0..width * height).map(|_| (light + r.below(spread)).min(255) as u8).collect();
+        Plane::over(samples, shape)
+    });
+    list.collect()
+}
+
+/// A film and the settings of its detector: width, height, depth, lookahead, mode, min, max.
+pub struct Film {
+    pub settings: [u64; 7],
+    pub frames: Vec<Frame<u8>>,
+}
+
+impl Film {
+    pub fn draw(r: &mut Random) -> Film {
+        let mode = r.of(&[0, 1, 1, 2, 2]);
+        let large = mode == 1 && r.once_in(12);
+        let (width, height) = if large { (r.of(&[242, 250]), 241) } else { (r.from_to(1, 40), r.from_to(1, 40)) };
+        let count = if large { r.from_to(2, 12) } else { r.from_to(1, 60) };
+        let ahead = if r.once_in(2) { r.from_to(4, 6) } else { r.from_to(1, 14) };
+        let (min, max) = (r.below(4), if r.once_in(2) { 4 + r.below(20) } else { u64::from(u32::MAX) });
+        let planes = planes(r, width as usize, height as usize, count);
+        let feed = |r: &mut Random| Fed { inter: (r.part() * 400.0).powi(2) / 100.0, ..Fed::default() };
+        let frames = planes.into_iter().map(|p| Frame::of(p, feed(r))).collect();
+        Film { settings: [width, height, 8, ahead, mode, min, max], frames }
+    }
+
+    /// What the crate's driver finds; nothing where it stops.
+    pub fn found(&self) -> Option<DetectionResults> {
+        let [width, height, _, ahead, mode, min, max] = self.settings;
+        let options = DetectionOptions {
+            analysis_speed: speed(mode),
+            detect_flashes: true,
+            min_scenecut_distance: Some(min as usize),
+            max_scenecut_distance: Some(max as usize),
+            lookahead_distance: ahead as usize,
+        };
+        let mut decoder = Decoder::of(width as usize, height as usize, self.frames.clone());
+        detect_scene_changes::<u8>(&mut decoder, options, None, None).ok()
+    }
+}
+
+pub fn score(e: &ScenecutResult) -> [f64; 5] {
+    [e.inter_cost, e.imp_block_cost, e.backward_adjusted_cost, e.forward_adjusted_cost, e.threshold]
+}
+
+pub fn film(desk: &mut Desk, r: &mut Random) {
+    let film = Film::draw(r);
+    let Some(found) = film.found() else {
+        desk.tally.differs("a film that the crate stops on");
+        return;
+    };
+
+    // What the port is given: planes already reduced, and the inter costs.
+    let eye = detector(&film.settings);
+    desk.out.words(&film.settings).word(film.frames.len() as u64);
+    for f in &film.frames {
+        let reduced = eye.door_reduced(&f.y_plane);
+        let PlaneGeometry { width, height, stride, origin } = reduced.shape;
+        desk.out.words(&[width, height, stride, origin].map(|x| x as u64));
+        desk.out.bytes(&reduced.samples).real(f.fed.inter);
+    }
+
+    // What the crate answers: the cuts, and the score of each frame that has one.
+    let cuts: Vec<u64> = found.scene_changes.iter().map(|&n| n as u64).collect();
+    desk.out.word(cuts.len() as u64).words(&cuts);
+    desk.out.word(found.scores.len() as u64);
+    for (n, e) in &found.scores {
+        desk.out.word(*n as u64).words(&score(e).map(f64::to_bits));
+    }
+    desk.out.end(Kind::Film);
+    desk.tally.films += 1;
+}

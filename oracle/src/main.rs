@@ -1,0 +1,59 @@
+//! Cases from a seed with the crate's answers, as a stream of words on the standard output.
+//!   oracle SEED COUNT       COUNT detector calls that the crate answers, COUNT / 10 measures of each kind at least
+//!   oracle film SEED FOLDER     a film for the command `brinepulley decide`, with the words to give it
+//!   oracle decided SEED         compares what the command wrote, from the standard input, with what the crate finds
+mod attempt;
+mod damage;
+mod decide;
+mod detector_cases;
+mod edges;
+mod films;
+mod list_cases;
+mod measures_reading;
+mod plane_cases;
+mod random;
+mod reading;
+mod run;
+mod stream;
+mod tally;
+mod values;
+
+use detector_cases::Desk;
+use random::Random;
+use stream::Stream;
+use tally::Tally;
+
+fn main() {
+    let argument = |i: usize| std::env::args().nth(i).unwrap_or_default();
+    match argument(1).as_str() {
+        "film" => return decide::write(&argument(2), &argument(3)).expect("a folder that can be written"),
+        "decided" => std::process::exit(i32::from(!decide::compare(&argument(2)))),
+        _ => (),
+    }
+    let number = |i: usize, or: u64| std::env::args().nth(i).map_or(or, |s| s.parse().expect("a number"));
+    let (seed, count) = (number(1, 1), number(2, 10_000));
+    attempt::prepare();
+    let (mut out, mut tally, mut r) = (Stream::new(), Tally::default(), Random::new(seed));
+    let mut desk = Desk { out: &mut out, tally: &mut tally };
+    edges::all(&mut desk);
+    for _ in 0..count / 6 {
+        list_cases::scale(&mut desk, &mut r);
+        plane_cases::pair(&mut desk, &mut r);
+        plane_cases::intra(&mut desk, &mut r);
+        list_cases::threshold(&mut desk, &mut r);
+        list_cases::hadamard(&mut desk, &mut r, 4);
+        list_cases::hadamard(&mut desk, &mut r, 8);
+        list_cases::satd(&mut desk, &mut r);
+    }
+    for _ in 0..count / 2000 {
+        films::film(&mut desk, &mut r);
+    }
+    while desk.tally.calls < count {
+        detector_cases::run(&mut desk, &mut r);
+    }
+    out.finish();
+    tally.print(seed);
+    if tally.different != 0 {
+        std::process::exit(1);
+    }
+}

@@ -1,0 +1,143 @@
+//! Document 01's measures as a program: which refusal is due, and the measures in exact numbers.
+
+/// A plane as it is lent.
+#[derive(Clone)]
+pub struct Lent {
+    pub samples: Vec<u8>,
+    pub width: u64,
+    pub height: u64,
+    pub stride: u64,
+    pub origin: u64,
+}
+
+impl Lent {
+    pub fn sample(&self, x: u64, y: u64) -> u8 {
+        self.samples[(self.origin + y * self.stride + x) as usize]
+    }
+    pub fn blocks(&self) -> u64 {
+        (self.width / 8) * (self.height / 8)
+    }
+    fn fault(&self) -> u32 {
+        let side = |n: u64| n == 0 || n > 8192;
+        if side(self.width) || side(self.height) || self.stride < self.width {
+            return 1;
+        }
+        let (origin, stride) = (u128::from(self.origin), u128::from(self.stride));
+        let end = origin + u128::from(self.height - 1) * stride + u128::from(self.width);
+        if end > self.samples.len() as u128 { 2 } else { 0 }
+    }
+}
+
+pub fn planes_fault(depth: u64, a: &Lent, b: &Lent) -> u32 {
+    if depth != 8 {
+        return 5;
+    }
+    for plane in [a, b] {
+        let fault = plane.fault();
+        if fault != 0 {
+            return fault;
+        }
+    }
+    if (a.width, a.height) != (b.width, b.height) { 3 } else { 0 }
+}
+
+pub fn intra_fault(depth: u64, a: &Lent, work: &Lent, costs: usize) -> u32 {
+    match planes_fault(depth, a, work) {
+        0 if (costs as u64) < a.blocks() => 4,
+        fault => fault,
+    }
+}
+
+pub fn difference(a: &Lent, b: &Lent) -> u64 {
+    let mut sum = 0;
+    for y in 0..a.height {
+        for x in 0..a.width {
+            sum += u64::from(a.sample(x, y).abs_diff(b.sample(x, y)));
+        }
+    }
+    sum
+}
+
+/// The rounded mean of the whole block with its first sample at (x, y).
+fn mean(p: &Lent, x: u64, y: u64) -> u64 {
+    let mut sum = 0;
+    for row in 0..8 {
+        for column in 0..8 {
+            sum += u64::from(p.sample(x + column, y + row));
+        }
+    }
+    (sum + 32) / 64
+}
+
+pub fn importance_total(a: &Lent, b: &Lent) -> u64 {
+    let mut total = 0;
+    for y in (0..a.height / 8).map(|y| y * 8) {
+        for x in (0..a.width / 8).map(|x| x * 8) {
+            total += mean(a, x, y).abs_diff(mean(b, x, y));
+        }
+    }
+    total
+}
+
+pub fn quotient(total: u64, count: u64) -> f64 {
+    total as f64 / count as f64
+}
+
+/// The transform of one side: output k is the sum of input j times −1 to the number of ones common to k and j.
+pub fn hadamard(list: &mut [i32], side: usize) {
+    let sign = |k: usize, j: usize| if (k & j).count_ones() % 2 == 0 { 1i64 } else { -1 };
+    let old: Vec<i64> = list.iter().map(|&x| i64::from(x)).collect();
+    for v in 0..side {
+        for u in 0..side {
+            let mut sum = 0;
+            for y in 0..side {
+                for x in 0..side {
+                    sum += sign(v, y) * sign(u, x) * old[y * side + x];
+                }
+            }
+            list[v * side + u] = sum as i32;
+        }
+    }
+}
+
+pub fn hadamard_fault(list: &[i32], side: usize) -> u32 {
+    if list.len() != side * side {
+        return 2;
+    }
+    let beyond = |&x: &i32| !(-65_535..=65_535).contains(&x);
+    if list.iter().any(beyond) { 10 } else { 0 }
+}
+
+pub fn satd(a: &[u8], b: &[u8]) -> i64 {
+    if a.len() != 64 || b.len() != 64 {
+        return -2;
+    }
+    let mut list: Vec<i32> = a.iter().zip(b).map(|(&x, &y)| i32::from(x) - i32::from(y)).collect();
+    hadamard(&mut list, 8);
+    let sum: i64 = list.iter().map(|x| i64::from(x.unsigned_abs())).sum();
+    (sum + 4) / 8
+}
+
+/// The costs in row order, and the work plane after them.
+pub fn intra(a: &Lent, work: &Lent) -> (Vec<u32>, Vec<u8>) {
+    let (mut costs, mut after) = (Vec::new(), work.samples.clone());
+    for y in (0..a.height / 8).map(|y| y * 8) {
+        for x in (0..a.width / 8).map(|x| x * 8) {
+            let block: Vec<u8> = (0..64).map(|i| a.sample(x + i % 8, y + i / 8)).collect();
+            costs.push(satd(&block, &[128; 64]) as u32);
+            for row in 0..8 {
+                let at = (work.origin + (y + row) * work.stride + x) as usize;
+                after[at..at + 8].fill(128);
+            }
+        }
+    }
+    (costs, after)
+}
+
+pub fn threshold(costs: &[u32], count: u64) -> Result<f64, u32> {
+    if (costs.len() as u64) < count {
+        return Err(4);
+    }
+    let sum: u64 = costs[..count as usize].iter().map(|&c| u64::from(c)).sum();
+    Ok(quotient(sum, count) * (1.0 - 0.7))
+}

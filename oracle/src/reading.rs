@@ -1,0 +1,254 @@
+//! Document 01's detector as a program, in its own order and words. It says which refusal is due, and what the crate's
+//! answer should be; where the two differ the oracle says so.
+
+pub const NONE: u64 = 0;
+pub const FAST: u64 = 1;
+pub const STANDARD: u64 = 2;
+
+pub const NUMBERS: usize = 13;
+pub const ROOM: usize = 16;
+pub const SCORES: usize = ROOM * 5;
+
+/// Inter cost, importance, backward, forward, threshold.
+pub type Score = [f64; 5];
+
+/// The state as it is lent: width, height, depth, lookahead, mode, min, max, offset, last number, last length, first
+/// number, release number, count; and the entries' places.
+#[derive(Clone)]
+pub struct State {
+    pub numbers: [u64; NUMBERS],
+    pub places: [f64; SCORES],
+}
+
+pub const OFFSET: usize = 7;
+pub const LAST: usize = 8;
+pub const LENGTH: usize = 9;
+pub const FIRST: usize = 10;
+pub const RELEASE: usize = 11;
+pub const COUNT: usize = 12;
+
+#[derive(Clone, Debug)]
+pub struct Call {
+    pub set: u64,
+    pub frame: u64,
+    pub previous: u64,
+    pub inter: Vec<f64>,
+    pub importance: Vec<f64>,
+    pub threshold: Vec<f64>,
+}
+
+impl State {
+    pub fn mode(&self) -> u64 {
+        self.numbers[4]
+    }
+    /// A, rule 1.
+    pub fn ahead(&self) -> u64 {
+        if self.numbers[3] >= 5 { 5 } else { 0 }
+    }
+    pub fn offset(&self) -> u64 {
+        self.numbers[OFFSET]
+    }
+    pub fn entries(&self) -> Vec<Score> {
+        let count = self.numbers[COUNT].min(ROOM as u64) as usize;
+        self.places.chunks(5).take(count).map(|c| [c[0], c[1], c[2], c[3], c[4]]).collect()
+    }
+    /// Entries below the count go to their places; the other places stay.
+    pub fn put(&mut self, offset: u64, entries: &[Score]) {
+        self.numbers[OFFSET] = offset;
+        self.numbers[COUNT] = entries.len() as u64;
+        for (place, entry) in self.places.chunks_mut(5).zip(entries) {
+            place.copy_from_slice(entry);
+        }
+    }
+    pub fn scaled(&self) -> bool {
+        self.mode() == FAST && self.numbers[0].min(self.numbers[1]) > 240
+    }
+}
+
+pub fn fresh_fault(n: &[u64; 7]) -> u32 {
+    if settings_fault_6(n[0], n[1], n[4]) {
+        return 6;
+    }
+    if n[2] != 8 { 5 } else { 0 }
+}
+
+fn settings_fault_6(width: u64, height: u64, mode: u64) -> bool {
+    !(1..=8192).contains(&width) || !(1..=8192).contains(&height) || mode > 2
+}
+
+pub fn scale_factor(width: u64, height: u64, mode: u64) -> i64 {
+    if settings_fault_6(width, height, mode) {
+        return -6;
+    }
+    if mode != FAST {
+        return 1;
+    }
+    match width.min(height) {
+        0..=240 => 1,
+        241..=480 => 2,
+        481..=720 => 4,
+        721..=1080 => 8,
+        1081..=1600 => 16,
+        _ => 32,
+    }
+}
+
+fn bad_inter(x: f64) -> bool {
+    x.is_nan() || x.is_infinite() || x < 0.0
+}
+
+fn bad_other(x: f64) -> bool {
+    x.is_infinite() || x < 0.0
+}
+
+/// Refusal 11.
+fn state_fault(s: &State) -> bool {
+    let n = &s.numbers;
+    if settings_fault_6(n[0], n[1], n[4]) || n[2] != 8 {
+        return true;
+    }
+    let most = if s.ahead() == 5 { 10 } else { 15 };
+    if n[COUNT] > most {
+        return true;
+    }
+    if n[COUNT] == 0 {
+        return n[OFFSET] != s.ahead();
+    }
+    n[OFFSET] >= n[COUNT] || s.entries().iter().any(|e| bad_inter(e[0]))
+}
+
+/// Refusal 10.
+fn list_fault(mode: u64, c: &Call) -> bool {
+    let due = c.set.saturating_sub(1);
+    let wrong = |list: &Vec<f64>| list.len() as u64 != due;
+    (mode != NONE && (wrong(&c.inter) || c.inter.iter().any(|&x| bad_inter(x))))
+        || (mode == STANDARD
+            && (wrong(&c.importance)
+                || wrong(&c.threshold)
+                || c.importance.iter().chain(&c.threshold).any(|&x| bad_other(x))))
+}
+
+/// The refusal that is due, or 0. The lengths are those of the two places of the state.
+pub fn step_fault(lengths: (u64, u64), s: &State, c: &Call) -> u32 {
+    if lengths != (NUMBERS as u64, SCORES as u64) || state_fault(s) {
+        return 11;
+    }
+    let before = s.numbers[LAST] != 0;
+    if c.frame == 0 || c.frame >= 1 << 32 || c.previous > c.frame || (before && c.frame - 1 != s.numbers[LAST]) {
+        return 7;
+    }
+    if c.set > 16 || (before && c.set > s.numbers[LENGTH]) {
+        return 8;
+    }
+    if c.set == 1 && s.ahead() == 0 && s.offset() == 0 && s.mode() != NONE {
+        return 9;
+    }
+    if list_fault(s.mode(), c) { 10 } else { 0 }
+}
+
+/// What an accepted call answers (bit 0: a cut; bit 1: a score), and the state after it.
+pub fn step(s: &State, c: &Call) -> (i64, State) {
+    let mut next = s.clone();
+    let n = c.frame;
+    if s.numbers[LAST] == 0 {
+        next.numbers[FIRST] = n;
+        next.numbers[RELEASE] = n;
+    }
+    next.numbers[LAST] = n;
+    next.numbers[LENGTH] = c.set;
+    if c.set >= 7 && s.ahead() == 5 && s.mode() != NONE {
+        next.numbers[RELEASE] = next.numbers[FIRST].max(n.saturating_sub(9));
+    }
+    let answer = rules(s, c, &mut next);
+    (answer, next)
+}
+
+fn rules(s: &State, c: &Call, next: &mut State) -> i64 {
+    let (ahead, length, distance) = (s.ahead(), c.set, c.frame - c.previous);
+    let (min, max) = (s.numbers[5], s.numbers[6]);
+    if length <= ahead {
+        return 0;
+    }
+    if s.mode() == NONE {
+        return i64::from(distance >= min && distance >= max);
+    }
+    let mut offset = s.offset();
+    let mut entries = s.entries();
+    let mut repeat = false;
+    if entries.is_empty() {
+        if offset > 0 && length > offset + 1 {
+            (0..offset).for_each(|k| score(s, c, offset, &mut entries, k, false));
+        } else {
+            (0..length - 1).for_each(|k| score(s, c, offset, &mut entries, k, false));
+            offset = length - 2;
+            repeat = true;
+        }
+    }
+    if length > offset + 1 {
+        score(s, c, offset, &mut entries, offset, repeat);
+    } else {
+        offset -= 1;
+    }
+    let mut cut = decide(s, offset as usize, &entries);
+    if distance < min {
+        cut = false;
+    } else if distance >= max {
+        cut = true;
+    }
+    if entries.len() as u64 > 5 + ahead {
+        entries.pop();
+    }
+    next.put(offset, &entries);
+    2 + i64::from(cut)
+}
+
+/// Scores item k and puts it in front.
+fn score(s: &State, c: &Call, offset: u64, entries: &mut Vec<Score>, k: u64, repeat: bool) {
+    let at = k as usize;
+    let inter = c.inter[at];
+    if s.mode() == FAST {
+        let delta = if repeat && s.scaled() { 0.0 } else { inter };
+        entries.insert(0, [delta, delta, delta, delta, 18.0 * 8.0 / 8.0]);
+        return;
+    }
+    let mut backward = 0.0;
+    let first = entries.len().min(offset as usize);
+    if offset > 0 {
+        if c.frame + k != 1 {
+            backward = f64::MAX;
+            for entry in &entries[..first] {
+                let difference = inter - entry[0];
+                if difference < backward {
+                    backward = difference;
+                }
+                if backward < 0.0 {
+                    backward = 0.0;
+                    break;
+                }
+            }
+        }
+        for (i, entry) in entries[..first].iter_mut().enumerate() {
+            let difference = entry[0] - inter;
+            if i == 0 || difference < entry[3] {
+                entry[3] = difference;
+            }
+            if entry[3] < 0.0 {
+                entry[3] = 0.0;
+            }
+        }
+    }
+    entries.insert(0, [inter, c.importance[at], backward, 0.0, c.threshold[at]]);
+}
+
+fn decide(s: &State, offset: usize, entries: &[Score]) -> bool {
+    let over_forward = |e: &&Score| e[3] >= e[4];
+    let over_backward = |e: &&Score| e[2] >= e[4];
+    let important = entries[offset..].iter().any(|e| e[1] >= 7.0 * 8.0 / 8.0);
+    if !important || !over_forward(&&entries[offset]) {
+        return false;
+    }
+    let before = entries[..offset].iter().filter(over_forward).count();
+    let after = entries[offset + 1..].iter().filter(over_backward).count();
+    let due = if s.mode() == FAST { 2 } else { 1 };
+    (before == 0 && (after == 0 || after >= due)) || (after == 0 && before == 1 && over_forward(&&entries[0]))
+}

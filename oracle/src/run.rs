@@ -1,0 +1,185 @@
+//! A film and the crate's detector over it.
+use std::sync::Arc;
+
+use fed::{SceneChangeDetector, SceneDetectionSpeed, ScenecutResult};
+use num_rational::Rational32;
+use v_frame::{
+    chroma::ChromaSubsampling,
+    frame::{Fed, Frame},
+    plane::{Mark, Plane},
+};
+
+use crate::attempt::attempt;
+use crate::random::Random;
+use crate::reading::{COUNT, Call, FAST, NONE, OFFSET, STANDARD, Score, State};
+use crate::values::Taste;
+
+pub type Detector = SceneChangeDetector<u8>;
+
+fn speed(mode: u64) -> SceneDetectionSpeed {
+    match mode {
+        NONE => SceneDetectionSpeed::None,
+        FAST => SceneDetectionSpeed::Fast,
+        _ => SceneDetectionSpeed::Standard,
+    }
+}
+
+/// The crate's detector for settings that it can have: width, height, depth, lookahead, mode, min, max.
+pub fn detector(n: &[u64]) -> Detector {
+    SceneChangeDetector::new(
+        (n[0] as usize, n[1] as usize),
+        n[2] as usize,
+        Rational32(1, 600),
+        ChromaSubsampling::Monochrome,
+        n[3] as usize,
+        speed(n[4]),
+        n[5] as usize,
+        n[6] as usize,
+    )
+}
+
+/// The crate reserves room for the whole lookahead, so an enormous one ends the program.
+pub fn possible(s: &State) -> bool {
+    s.numbers[3] < 1 << 20
+}
+
+/// What the crate answers, its offset and entries after the call, and the score that it gives.
+pub struct Answer {
+    pub answer: i64,
+    pub offset: u64,
+    pub entries: Vec<Score>,
+    pub given: Option<Score>,
+}
+
+/// A film from frame `first − 1` on: each frame carries the measures of the pair that it ends.
+pub struct Film {
+    first: u64,
+    frames: Vec<Arc<Frame<u8>>>,
+    /// Whether the crate's code can have made these deltas.
+    pub real: bool,
+}
+
+impl Film {
+    pub fn new(r: &mut Random, s: &State, first: u64, calls: u64) -> Film {
+        let taste = Taste::new(r);
+        let pixels = if possible(s) { detector(&s.numbers).door_pixels() as u64 } else { 1 };
+        let real = s.mode() != FAST || !r.once_in(8);
+        let frames = (0..calls + 40).map(|i| {
+            let difference = taste.difference(r, pixels);
+            let inter = match s.mode() {
+                FAST if real => difference as f64 / pixels as f64,
+                _ => taste.inter(r),
+            };
+            let fed = Fed { inter, importance: taste.importance(r), threshold: taste.threshold(r) };
+            Arc::new(Frame::of(Plane::marked(Mark { frame: first + i, difference }), fed))
+        });
+        let frames = frames.collect();
+        Film { first, frames, real }
+    }
+
+    /// A film in which every pair has the same measures; in Fast mode the delta is a whole number.
+    pub fn fixed(s: &State, first: u64, [inter, importance, threshold]: [f64; 3]) -> Film {
+        let difference = inter as u64 * detector(&s.numbers).door_pixels() as u64;
+        let fed = Fed { inter, importance, threshold };
+        let frame = |i| Arc::new(Frame::of(Plane::marked(Mark { frame: first + i, difference }), fed));
+        Film { first, frames: (0..40).map(frame).collect(), real: true }
+    }
+
+    fn frame(&self, number: u64) -> Option<&Arc<Frame<u8>>> {
+        self.frames.get((number + 1 - self.first) as usize)
+    }
+
+    /// The call for frame n with a set of so many frames: item k is pair n + k.
+    pub fn call(&self, r: &mut Random, mode: u64, set: u64, n: u64, previous: u64) -> Call {
+        let pairs = set.saturating_sub(1);
+        let list = |part: fn(&Fed) -> f64| -> Vec<f64> {
+            (0..pairs).map(|k| part(&self.frame(n + k).unwrap().fed)).collect()
+        };
+        let mut c = Call {
+            set,
+            frame: n,
+            previous,
+            inter: list(|f| f.inter),
+            importance: list(|f| f.importance),
+            threshold: list(|f| f.threshold),
+        };
+        // A list that is not read may be anything.
+        if mode != STANDARD && r.once_in(2) {
+            c.importance = vec![f64::NEG_INFINITY; r.below(4) as usize];
+            c.threshold = vec![-1.0; r.below(20) as usize];
+        }
+        if mode == NONE && r.once_in(2) {
+            c.inter = vec![f64::NAN; r.below(20) as usize];
+        }
+        c
+    }
+
+    /// The crate's detector in a given state, about to be called for frame n.
+    pub fn placed(&self, s: &State, n: u64) -> Detector {
+        placed(s, self.frame((n + s.offset()).saturating_sub(1)))
+    }
+
+    /// The crate's answer; nothing where it panics.
+    pub fn ask(&self, d: &mut Detector, c: &Call) -> Option<Answer> {
+        let start = c.frame.checked_sub(self.first)? as usize;
+        let set: Vec<_> = self.frames.get(start..start.checked_add(c.set as usize)?)?.iter().collect();
+        let (n, p) = (c.frame as usize, c.previous as usize);
+        let (cut, given) = attempt(|| d.analyze_next_frame(&set, n, p))?;
+        let (offset, entries) = d.door_look();
+        let entries: Vec<Score> = entries.iter().map(score).collect();
+        let answer = i64::from(cut) + 2 * i64::from(given.is_some());
+        Some(Answer { answer, offset: offset as u64, entries, given: given.map(|g| score(&g)) })
+    }
+}
+
+/// A detector in a given state. Where it has entries, it keeps the plane that was compared last.
+fn placed(s: &State, last: Option<&Arc<Frame<u8>>>) -> Detector {
+    let mut d = detector(&s.numbers);
+    let entries: Vec<ScenecutResult> = s.entries().iter().map(result).collect();
+    let kept = if entries.is_empty() { None } else { last.map(|f| &**f) };
+    d.door_put(s.offset() as usize, &entries, kept);
+    d
+}
+
+/// Gives the crate a call that is refused here: true if it runs through, false if it panics, nothing if the crate cannot
+/// be given such a call.
+pub fn ask_refused(s: &State, c: &Call, fault: u32) -> Option<bool> {
+    let (n, due) = (&s.numbers, c.set.saturating_sub(1));
+    let lists: &[&Vec<f64>] = match n[4] {
+        NONE => &[],
+        FAST if fault == 10 => return None,
+        FAST => &[&c.inter],
+        STANDARD => &[&c.inter, &c.importance, &c.threshold],
+        _ => return None,
+    };
+    let large = n[..4].iter().any(|&x| x >= 1 << 20) || n[COUNT] > 16 || c.set > 40 || n[OFFSET] > 40;
+    if large || lists.iter().any(|l| l.len() as u64 != due) {
+        return None;
+    }
+    let item = |list: usize, k: u64| lists.get(list).and_then(|l| l.get(k as usize)).copied().unwrap_or(0.0);
+    let frames = (0..c.set).map(|i| {
+        let k = i.wrapping_sub(1);
+        let fed = Fed { inter: item(0, k), importance: item(1, k), threshold: item(2, k) };
+        let difference = (fed.inter * (n[0] * n[1]) as f64) as u64;
+        Arc::new(Frame::of(Plane::marked(Mark { frame: i, difference }), fed))
+    });
+    let frames: Vec<_> = frames.collect();
+    let set: Vec<_> = frames.iter().collect();
+    let mut d = placed(s, frames.get(s.offset() as usize));
+    let (n, p) = (c.frame as usize, c.previous as usize);
+    Some(attempt(|| d.analyze_next_frame(&set, n, p)).is_some())
+}
+
+fn score(e: &ScenecutResult) -> Score {
+    [e.inter_cost, e.imp_block_cost, e.backward_adjusted_cost, e.forward_adjusted_cost, e.threshold]
+}
+
+fn result(s: &Score) -> ScenecutResult {
+    ScenecutResult {
+        inter_cost: s[0],
+        imp_block_cost: s[1],
+        backward_adjusted_cost: s[2],
+        forward_adjusted_cost: s[3],
+        threshold: s[4],
+    }
+}

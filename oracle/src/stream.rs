@@ -1,0 +1,97 @@
+//! The cases as a stream of 64-bit words, the lowest byte first. A record is its kind, the number of words that follow, and
+//! those words. Bytes and 32-bit numbers are packed into words, the rest of the last word 0.
+use std::io::{BufWriter, Stdout, Write, stdout};
+
+#[derive(Clone, Copy)]
+pub enum Kind {
+    End = 0,
+    Scale = 1,
+    Planes = 2,
+    Intra = 3,
+    Threshold = 4,
+    Hadamard = 5,
+    Satd = 6,
+    Fresh = 7,
+    State = 8,
+    Step = 9,
+    Film = 10,
+}
+
+pub struct Stream {
+    out: BufWriter<Stdout>,
+    words: Vec<u64>,
+    pub records: u64,
+}
+
+impl Stream {
+    pub fn new() -> Self {
+        Stream { out: BufWriter::with_capacity(1 << 18, stdout()), words: Vec::new(), records: 0 }
+    }
+
+    pub fn word(&mut self, w: u64) -> &mut Self {
+        self.words.push(w);
+        self
+    }
+
+    pub fn answer(&mut self, a: i64) -> &mut Self {
+        self.word(a as u64)
+    }
+
+    pub fn words(&mut self, list: &[u64]) -> &mut Self {
+        self.words.extend_from_slice(list);
+        self
+    }
+
+    pub fn real(&mut self, x: f64) -> &mut Self {
+        self.word(x.to_bits())
+    }
+
+    /// A list of reals with its length before it.
+    pub fn reals(&mut self, list: &[f64]) -> &mut Self {
+        self.word(list.len() as u64);
+        self.words.extend(list.iter().map(|x| x.to_bits()));
+        self
+    }
+
+    /// Bytes with their number before them.
+    pub fn bytes(&mut self, list: &[u8]) -> &mut Self {
+        self.word(list.len() as u64);
+        for chunk in list.chunks(8) {
+            let mut w = [0u8; 8];
+            w[..chunk.len()].copy_from_slice(chunk);
+            self.words.push(u64::from_le_bytes(w));
+        }
+        self
+    }
+
+    /// Numbers of 32 bits with their number before them.
+    pub fn halves(&mut self, list: &[u32]) -> &mut Self {
+        self.word(list.len() as u64);
+        for pair in list.chunks(2) {
+            let high = pair.get(1).copied().unwrap_or(0);
+            self.words.push(u64::from(pair[0]) | u64::from(high) << 32);
+        }
+        self
+    }
+
+    /// Ends a record.
+    pub fn end(&mut self, kind: Kind) {
+        let head = [kind as u64, self.words.len() as u64];
+        for w in head.iter().chain(&self.words) {
+            // The reader is gone once it has found too much: there is nobody left to write for.
+            if self.out.write_all(&w.to_le_bytes()).is_err() {
+                std::process::exit(3);
+            }
+        }
+        self.words.clear();
+        self.records += 1;
+    }
+
+    pub fn finish(&mut self) {
+        let records = self.records;
+        self.word(records).end(Kind::End);
+        if self.out.flush().is_err() {
+            std::process::exit(3);
+        }
+    }
+}

@@ -1,0 +1,46 @@
+//! What was asked, and where the crate's code and the reading of document 01 differ.
+use std::collections::BTreeMap;
+
+#[derive(Default)]
+pub struct Tally {
+    pub calls: u64,
+    pub cuts: u64,
+    pub measures: u64,
+    pub films: u64,
+    /// Calls and measures beside these that the reading alone answers: the crate cannot be asked.
+    pub read_calls: u64,
+    pub read_measures: u64,
+    /// For each refusal: how many damaged calls the crate stopped on, ran through, or could not be given.
+    pub refused: BTreeMap<u32, [u64; 3]>,
+    pub different: u64,
+}
+
+pub enum Ran {
+    Stopped = 0,
+    Through = 1,
+    NotAsked = 2,
+}
+
+impl Tally {
+    pub fn refusal(&mut self, number: u32, ran: Ran) {
+        self.refused.entry(number).or_default()[ran as usize] += 1;
+    }
+
+    pub fn differs(&mut self, what: &str) {
+        self.different += 1;
+        if self.different <= 5 {
+            eprintln!("oracle: the crate and document 01 differ: {what}");
+        }
+    }
+
+    pub fn print(&self, seed: u64) {
+        eprintln!(
+            "oracle: seed {seed}: the crate answered {} detector calls, {} measures, {} films; the reading alone {} calls, \
+             {} measures; {} cuts; crate and reading differ on {}",
+            self.calls, self.measures, self.films, self.read_calls, self.read_measures, self.cuts, self.different
+        );
+        for (number, [stopped, through, not]) in &self.refused {
+            eprintln!("oracle: refusal {number:2}: the crate stopped {stopped}, ran {through}, was not asked {not}");
+        }
+    }
+}
