@@ -31,7 +31,8 @@ COMMAND = build/bin/brinepulley
 CHECK = build/tests/check
 FILM = build/tests/film
 
-CRATES = $(shell find crates crates.txt -type f)
+# What the archive comes from: must-fail edits are no part of it.
+CRATES = $(shell find crates crates.txt -name must-fail -prune -o -type f -print)
 TOOL_OBJECTS = $(patsubst %.c,build/%.o,$(wildcard tool/*.c))
 CHECK_OBJECTS = $(patsubst %.c,build/%.o,$(filter-out tests/film.c,$(wildcard tests/*.c)))
 
@@ -83,11 +84,12 @@ install-command: command
 	install -d '$(DESTDIR)$(PREFIX)/bin'
 	install -m 755 $(COMMAND) '$(DESTDIR)$(PREFIX)/bin/'
 
-run: $(COMMAND)
+run: all
 	@$(RUN) $(COMMAND) demo
 
 check-c: lib $(COMMAND) $(CHECK) $(FILM)
-	@RUN='$(RUN)' NM='$(NM)' COMPILER='$(C_COMPILER)' ARCHIVE='$(ARCHIVE)' COMMAND='$(COMMAND)' CHECK='$(CHECK)' FILM='$(FILM)' sh tests/run.sh
+	@RUN='$(RUN)' NM='$(NM)' COMPILER='$(C_COMPILER)' STATIC='$(STATIC)' \
+	    ARCHIVE='$(ARCHIVE)' COMMAND='$(COMMAND)' CHECK='$(CHECK)' FILM='$(FILM)' sh tests/run.sh
 
 test:
 	.ci/run

@@ -21,7 +21,8 @@
  * after it returns, and there is no hidden state: calls on different places may run in several threads.
  *
  * A plane is a pointer to 8 bit samples, their number, then width, height, stride and origin: sample (x, y) is
- * samples[origin + y * stride + x]. Samples outside the plane's width and height are never read or written.
+ * samples[origin + y * stride + x]. Samples outside the plane's width and height are never read or written. Where a function
+ * takes two planes, the numbers of the second end in 2. `depth` is the bits of a sample; 8 is the only depth so far.
  */
 #ifndef BRINEPULLEY_H
 #define BRINEPULLEY_H
@@ -40,8 +41,8 @@ extern "C" {
 
 /* ---- measures ---- */
 
-/* The factor by which Fast mode divides a frame's sides before frames are compared: 1 (none), 2, 4, 8, 16 or 32. In the
- * other modes it is 1. The reduced sides are the sides divided by it, rounded down.
+/* The factor by which Fast mode divides a frame's sides, width and height, before frames are compared: 1 (none), 2, 4, 8, 16
+ * or 32. In the other modes it is 1. The reduced sides are the sides divided by it, rounded down.
  * Refusals: 6. */
 int64_t brine_scale_factor(size_t width, size_t height, uint32_t mode);
 
@@ -74,8 +75,8 @@ int64_t brine_importance(uint32_t depth,
     double *importance);
 
 /* The intra costs of a plane. Returns the number of whole blocks, (height / 8) * (width / 8). Each block's cost goes to
- * `costs`, in row order, and its rest stays. In the work plane every whole block is filled with 128, and every other sample
- * stays.
+ * `costs`, in row order, and its rest stays. In the work plane, `work` with the numbers that end in 2, every whole block is
+ * filled with 128, and every other sample stays.
  * Refusals: 5; 1 and 2 of the plane; 1 and 2 of the work plane; 3; 4. Then the work plane and the costs are as they were. */
 int64_t brine_intra_costs(uint32_t depth,
     const uint8_t *samples, size_t samples_len, size_t width, size_t height, size_t stride, size_t origin,
@@ -88,16 +89,17 @@ int64_t brine_intra_costs(uint32_t depth,
  * *threshold is as it was. */
 int64_t brine_threshold(const uint32_t *costs, size_t costs_len, size_t count, double *threshold);
 
-/* The Hadamard transform of 16 numbers, four rows of four, in their place. Returns 0.
+/* The Hadamard transform of `list`, 16 numbers in four rows of four, in their place. Returns 0.
  * Refusals: 2, where the length is not 16; 10, where a number is beyond 65,535 or below -65,535. Then the list is as it
  * was. */
 int64_t brine_hadamard4x4(int32_t *list, size_t len);
 
-/* The same of 64 numbers, eight rows of eight.
- * Refusals: 2, where the length is not 64; 10. */
+/* The same of 64 numbers, eight rows of eight. Returns 0.
+ * Refusals: 2, where the length is not 64; 10, as above. Then the list is as it was. */
 int64_t brine_hadamard8x8(int32_t *list, size_t len);
 
-/* The SATD of two blocks of 64 samples, eight rows of eight.
+/* The SATD of two blocks of 64 samples, eight rows of eight: the sum of the absolute values of their transformed differences,
+ * over 8.
  * Refusals: 2, where a length is not 64. */
 int64_t brine_satd8x8(const uint8_t *first, size_t first_len, const uint8_t *second, size_t second_len);
 
@@ -136,15 +138,19 @@ enum brine_double {
     BRINE_THRESHOLD
 };
 
-/* A fresh detector. Returns 0, and the thirteen numbers are written; there is no score yet, so `scores` is not written.
+/* A fresh detector for frames of width * height samples, before Fast mode reduces them. `lookahead` is the lookahead distance:
+ * 5 or more has the detector look five pairs ahead, less has it look at none. `min` and `max` are the distances of keyframes:
+ * below `min` there is no cut, from `max` on there is one. Any number is taken for the three.
+ * Returns 0, and the thirteen numbers are written; there is no score yet, so `scores` is not written.
  * Refusals: 11, where numbers_len is not BRINE_NUMBERS or scores_len not BRINE_SCORES; 6; 5. Then nothing is written. */
 int64_t brine_detector_fresh(size_t width, size_t height, uint32_t depth, size_t lookahead, uint32_t mode,
     uint64_t min, uint64_t max, uint64_t *numbers, size_t numbers_len, double *scores, size_t scores_len);
 
-/* The step: decides whether a scene begins at frame `frame`, from a set of `set_len` frames of which it is the second. Item k
- * of a list was measured between frames k and k + 1 of the set, so each list that the mode reads has set_len - 1 items (none
- * for an empty set). Fast mode reads `inter` alone and None mode no list; a list that is not read may be anything, as NULL with
- * length 0.
+/* The step: decides whether a scene begins at frame `frame`, from a set of `set_len` frames of which it is the second.
+ * `previous_keyframe` is the number of the last frame at which a scene began. The first call may have any number from 1 on, and
+ * each next call has the next number. Item k of a list was measured between frames k and k + 1 of the set, so each list that
+ * the mode reads has set_len - 1 items (none for an empty set): the inter costs, the importances, the thresholds. Fast mode
+ * reads `inter` alone and None mode no list; a list that is not read may be anything, as NULL with length 0.
  * Returns what was decided:
  *   0  no cut and no score     1  a cut without a score     2  no cut, with a score     3  a cut, with a score
  * With a score, it is the five doubles from scores[5 * numbers[BRINE_OFFSET]] on. After the call frames numbered below

@@ -1,6 +1,6 @@
 #!/bin/sh
-# Tests of what a C program links: names of the archive, the header by itself, the pkg-config file, what a program needs.
-# ARCHIVE, NM, COMPILER and so on come from the Makefile. Its last line is 'N passed, M failed'.
+# Tests of what a C program links: the archive's names, what a program needs, the header by itself, the pkg-config file.
+# ARCHIVE, NM and COMPILER come from the Makefile. Its last line is 'N passed, M failed'.
 set -u
 room=$(mktemp -d) || exit 1
 trap 'rm -rf "$room"' EXIT
@@ -34,8 +34,9 @@ cat > "$room/one.c" << 'END'
 int main(void) { uint64_t numbers[13]; double scores[80];
     return brine_detector_fresh(64, 48, 8, 5, 1, 0, 250, numbers, 13, scores, 80) == 0 ? 0 : 1; }
 END
-# shellcheck disable=SC2086 # flags are words
-$COMPILER -I"$build/include" -o "$room/one" "$room/one.c" -Wl,--whole-archive "$ARCHIVE" -Wl,--no-whole-archive > "$room/log" 2>&1
+whole="-Wl,--whole-archive $ARCHIVE -Wl,--no-whole-archive"
+# shellcheck disable=SC2086 # words
+$COMPILER -I"$build/include" -o "$room/one" "$room/one.c" $whole > "$room/log" 2>&1
 verdict "a program links with libc alone" $?
 "${NM%nm}readelf" -d "$room/one" 2> "$room/log" | grep NEEDED > "$room/needed"
 sed 's/.*\[\(.*\)\]/\1/' "$room/needed" > "$room/log"
@@ -50,9 +51,19 @@ if command -v c++ > /dev/null 2>&1; then
     cp "$room/alone.c" "$room/alone.cpp"
     c++ -std=c++11 -pedantic -Wall -Wextra -Werror -I"$build/include" -fsyntax-only "$room/alone.cpp" > "$room/log" 2>&1
     verdict "the header alone, in C++" $?
-    grep -q 'extern "C"' "$header"
+    cp "$room/one.c" "$room/one.cpp"
+    c++ -std=c++11 -I"$build/include" -S -o - "$room/one.cpp" 2> "$room/log" | grep -Eq '[^_a-z0-9]brine_detector_fresh'
     verdict "the header's names are C's in C++ too" $?
 fi
+
+# The quick start's program, as it stands in the documents: it compiles without a warning and finds its cut.
+root=$(dirname "$0")/..
+awk '/^## /{ in_it = /^## Quick start in C/ } in_it && /^    / { print substr($0, 5) }' \
+    "$root/README.md" "$root/docs/QUICKSTART.md" 2> /dev/null | sed '/^}/q' > "$room/quick.c"
+# shellcheck disable=SC2086 # words
+$COMPILER -std=c11 -Wall -Wextra -Werror -I"$build/include" $STATIC -o "$room/quick" "$room/quick.c" "$ARCHIVE" \
+    > "$room/log" 2>&1 && $RUN "$room/quick" > "$room/log" && grep -qx 'frame 5: 60, a cut' "$room/log"
+verdict "the quick start's program" $?
 
 if command -v pkg-config > /dev/null 2>&1; then
     PKG_CONFIG_PATH=$build/lib/pkgconfig pkg-config --cflags --libs brinepulley > "$room/log" 2>&1 &&

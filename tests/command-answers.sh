@@ -1,6 +1,6 @@
 # Part of command.sh: answers, each worked out by hand from films with flat frames.
 flat=$room/flat.y4m
-want=$room/want
+expected=$room/expected
 luma='50 50 50 50 50 50 90 90 90 90 90 90 90 90 90 90'
 
 # Fast: the difference is 40 at frame 6 and 0 elsewhere. The last four frames have sets of at most 5.
@@ -13,22 +13,22 @@ awk 'BEGIN {
         if (n <= 11) printf "%d,%d,%d,%d,%d,%d,18,1\n", n, n == 6, d, d, d, d
         else printf "%d,0,,,,,,1\n", n
     }
-}' > "$want"
-gives "fast mode, every line" "$want" decide "$flat" --csv
-gives "fast is the default, words in any order" "$want" decide --csv --mode fast --lookahead 5 --min 0 "$flat"
+}' > "$expected"
+gives "fast mode, every line" "$expected" decide "$flat" --csv
+gives "fast is the default, words in any order" "$expected" decide --csv --mode fast --lookahead 5 --min 0 "$flat"
 $RUN "$COMMAND" decide - --csv < "$flat" > "$room/out" 2> "$room/err"
-cmp -s "$want" "$room/out" && holds=yes || holds=no
+cmp -s "$expected" "$room/out" && holds=yes || holds=no
 verdict "a film from the standard input" "$holds"
 for colour in - 420 420mpeg2 420paldv 422 444 mono; do
     film y4m 65 47 "$colour" $luma > "$room/odd.y4m"
-    gives "colour space $colour, odd sides" "$want" decide "$room/odd.y4m" --csv
+    gives "colour space $colour, odd sides" "$expected" decide "$room/odd.y4m" --csv
 done
 
 # The release number is the larger of 1 and n - 9 while sets have seven frames.
 film y4m 16 16 mono $luma $luma > "$room/long.y4m"
 command_run decide --csv "$room/long.y4m"
-holds=no
-[ "$(awk -F, 'NR == 21 || NR == 27 || NR == 33 { printf "%s ", $1 ":" $8 }' "$room/out")" = "19:10 25:16 31:17 " ] && holds=yes
+numbers=$(awk -F, 'NR == 21 || NR == 27 || NR == 33 { printf "%s ", $1 ":" $8 }' "$room/out")
+[ "$numbers" = "19:10 25:16 31:17 " ] && holds=yes || holds=no
 verdict "release numbers" "$holds"
 
 cuts_at "min 7 forbids the cut at 6" "0" "$flat" --min 7
@@ -72,13 +72,13 @@ verdict "lines for people" "$holds"
 film pgm 20 9 255 50 > "$p"
 film pgm 20 9 255 57/58 > "$q"
 # The second picture lies 71 and 70 below 128 by turns: (4512 + 32 + 4) / 8 = 568, and 568 * (1.0 - 0.7).
-cat > "$want" << 'END'
+cat > "$expected" << 'END'
 difference 1350
 delta      7.5
 importance 8 (total 16 over 2 blocks)
 threshold  170.40000000000003 (of the second picture)
 END
-gives "measure" "$want" measure "$p" "$q"
+gives "measure" "$expected" measure "$p" "$q"
 
 command_run demo
 holds=no

@@ -20,7 +20,7 @@ printf 'YUV4MPEG2 W16x H16\n' > "$bad"
 ends "a width that is no number" 2 "width is not a number" decide "$bad"
 printf 'YUV4MPEG2 W16 H-1\n' > "$bad"
 ends "a height that is no number" 2 "height is not a number" decide "$bad"
-for colour in 411 444alpha 420p 420x Mono; do
+for colour in 411 444alpha 420p 420x 4208 420p0 422jpeg monop10 Mono; do
     printf 'YUV4MPEG2 W16 H16 C%s\n' "$colour" > "$bad"
     ends "colour space $colour" 2 "colour space C$colour" decide "$bad"
 done

@@ -2,6 +2,15 @@
 
 #include <string.h>
 
+/* The header's names for places are those of the state's description. */
+_Static_assert(BRINE_NUMBERS == NUMBERS && BRINE_SCORES == SCORES && BRINE_SCORE_DOUBLES == 5, "lengths");
+_Static_assert((int)BRINE_WIDTH == WIDTH && (int)BRINE_LOOKAHEAD == LOOKAHEAD && (int)BRINE_MODE == MODE, "settings");
+_Static_assert((int)BRINE_MIN == MIN && (int)BRINE_OFFSET == OFFSET && (int)BRINE_LAST_NUMBER == LAST, "numbers");
+_Static_assert((int)BRINE_RELEASE_NUMBER == RELEASE && (int)BRINE_COUNT == COUNT, "the last numbers");
+_Static_assert((int)BRINE_INTER == INTER && (int)BRINE_FORWARD == FORWARD, "a score's first");
+_Static_assert((int)BRINE_IMPORTANCE == IMPORTANCE && (int)BRINE_THRESHOLD == THRESHOLD, "a score's others");
+_Static_assert(BRINE_MODE_NONE == NONE && BRINE_MODE_FAST == FAST && BRINE_MODE_STANDARD == STANDARD, "modes");
+
 void detector_make(struct detector *detector, uint32_t mode, size_t lookahead)
 {
     detector->numbers = lent_make(&detector->lent_numbers, NUMBERS * sizeof(uint64_t));

@@ -21,12 +21,12 @@ static int64_t called(struct call c)
                                 c.scores_len);
 }
 
-#define REFUSED(number, ...)                                                                                            \
-    do {                                                                                                               \
-        struct call c = good;                                                                                          \
-        __VA_ARGS__;                                                                                                   \
-        EXPECT_NUMBER(called(c), -(number));                                                                           \
-        EXPECT(lent_same(&numbers) && lent_same(&scores));                                                             \
+#define REFUSED(number, ...)                                                                                           \
+    do {                                                                                                              \
+        struct call c = good;                                                                                         \
+        __VA_ARGS__;                                                                                                  \
+        EXPECT_NUMBER(called(c), -(number));                                                                          \
+        EXPECT(lent_same(&numbers) && lent_same(&scores));                                                            \
     } while (0)
 
 static void refusals(void)

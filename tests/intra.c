@@ -7,7 +7,7 @@
 #include <string.h>
 #include <sys/mman.h>
 
-/* The plane measured: 20 × 17, stride 21, origin 2. The work plane: stride 24, origin 3, three samples more than due. */
+/* The plane measured: 20 × 17, stride 21, origin 2. The work plane: stride 24, origin 3, three samples too many. */
 enum {
     WIDTH = 20,
     HEIGHT = 17,
@@ -51,11 +51,11 @@ static void refused(struct call c, int64_t number)
     EXPECT(lent_same(&costs));
 }
 
-#define REFUSED(number, ...)                                                                                            \
-    do {                                                                                                               \
-        struct call c = good;                                                                                          \
-        __VA_ARGS__;                                                                                                   \
-        refused(c, number);                                                                                            \
+#define REFUSED(number, ...)                                                                                           \
+    do {                                                                                                              \
+        struct call c = good;                                                                                         \
+        __VA_ARGS__;                                                                                                  \
+        refused(c, number);                                                                                           \
     } while (0)
 
 static void refusals(void)

@@ -154,7 +154,7 @@ static void none_run(void)
     EXPECT_NUMBER((int64_t)cuts, CALLS / 12);
 }
 
-/* Lookahead 4: sets of six, then shorter ones at the film's end. The offset is 4 and falls to 0; the deque keeps five. */
+/* Lookahead 4: sets of six, then shorter ones at the film's end. The offset is 4, then falls; five entries stay. */
 static void no_lookahead(void)
 {
     uint64_t n = 1;

@@ -110,11 +110,11 @@ static void refuses_step(struct step step, int64_t number)
     detector_refuses(&detector, &step, number);
 }
 
-#define REFUSED(number, ...)                                                                                            \
-    do {                                                                                                               \
-        struct step s = next_step();                                                                                   \
-        __VA_ARGS__;                                                                                                   \
-        refuses_step(s, number);                                                                                       \
+#define REFUSED(number, ...)                                                                                           \
+    do {                                                                                                              \
+        struct step s = next_step();                                                                                  \
+        __VA_ARGS__;                                                                                                  \
+        refuses_step(s, number);                                                                                      \
     } while (0)
 
 static void refusal_7(void)

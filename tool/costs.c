@@ -40,7 +40,7 @@ enum status costs_next(struct costs *costs, double *cost)
     costs->lines++;
     const int first = getc(costs->file);
     if (first == EOF)
-        return bad_line(costs, ferror(costs->file) ? "cannot be read" : "is missing: the film has more pairs of frames");
+        return bad_line(costs, ferror(costs->file) ? "cannot be read" : "is missing: the film has more frames");
     if (!read_line(costs->file, line, first))
         return bad_line(costs, "is not a number");
     *cost = strtod(line, &end);

@@ -79,13 +79,13 @@ static enum status add_pictures(struct page *page, const struct film *film)
 static void add_bar(struct page *page, const struct verdict *verdict)
 {
     char bar[BAR_WIDTH + 1];
-    const double length = verdict->score[INTER] / 2;
-    const size_t mark = (size_t)(verdict->score[THRESHOLD] / 2);
+    const double length = verdict->score[BRINE_INTER] / 2;
+    const size_t mark = (size_t)(verdict->score[BRINE_THRESHOLD] / 2);
 
     for (size_t i = 0; i < BAR_WIDTH; i++)
         bar[i] = (double)i < length ? '#' : i == mark ? '|' : ' ';
     bar[BAR_WIDTH] = '\0';
-    page_add(page, "  %5" PRIu64 "  %s %6.1f  %-6s %8" PRIu64 "\n", verdict->frame, bar, verdict->score[INTER],
+    page_add(page, "  %5" PRIu64 "  %s %6.1f  %-6s %8" PRIu64 "\n", verdict->frame, bar, verdict->score[BRINE_INTER],
              verdict->cut ? "CUT" : "no cut", verdict->release);
 }
 
@@ -115,11 +115,11 @@ static void add_words(struct page *page, const struct story *story)
     const struct verdict *squall = &story->verdicts[SQUALL_FRAME];
 
     page_add(page, "\n  Lightning, frame %d: differences of %.1f and %.1f, there and back.\n",
-             FLASH_FRAME, flash->score[INTER], after->score[INTER]);
+             FLASH_FRAME, flash->score[BRINE_INTER], after->score[BRINE_INTER]);
     page_add(page, "  Decided: %s at %d, %s at %d.%s\n", cut_or_not(flash), FLASH_FRAME, cut_or_not(after),
              FLASH_FRAME + 1, flash->cut || after->cut ? "" : " A flash is no new scene.");
     page_add(page, "  The squall line, frame %d: a difference of %.1f, and the sea stays changed.\n", SQUALL_FRAME,
-             squall->score[INTER]);
+             squall->score[BRINE_INTER]);
     page_add(page, "  Decided: %s at %d.%s\n", cut_or_not(squall), SQUALL_FRAME,
              squall->cut ? " A clip begins there and goes ashore." : "");
     page_add(page, "  Frames below %" PRIu64 " may be purged by now (the release number).\n",
@@ -147,7 +147,7 @@ static enum status tell(const struct film *film, const struct story *story)
 
 enum status command_demo(int count, char **words)
 {
-    const struct settings settings = {.mode = MODE_FAST, .lookahead = 5, .min = 0, .max = UINT32_MAX};
+    const struct settings settings = {.mode = BRINE_MODE_FAST, .lookahead = 5, .min = 0, .max = UINT32_MAX};
     struct costs costs = {0};
     struct film film;
     struct story story;

@@ -1,22 +1,16 @@
 #include "driver.h"
 
-#include "brinepulley.h"
-
 #include <stdio.h>
 #include <string.h>
 
 enum {
     LARGEST_SET = 16, /* frames of a set, at most */
-    LARGEST_LISTS = LARGEST_SET - 1,
-    NUMBERS = 13, /* the state's numbers, and the places of two of them */
-    OFFSET = 7,
-    RELEASE = 11,
-    SCORES = 16
+    LARGEST_LISTS = LARGEST_SET - 1
 };
 
 struct driver {
-    uint64_t numbers[NUMBERS];
-    double scores[SCORES * SCORE_NUMBERS];
+    uint64_t numbers[BRINE_NUMBERS];
+    double scores[BRINE_SCORES];
     uint32_t mode;
 
     /* The set in hand: pair k of it is frame number + k, so the frame to decide on is the first pair's second one. */
@@ -38,7 +32,7 @@ static enum status start(struct driver *driver, const struct film *film, const s
     driver->most_pairs = settings->lookahead < LARGEST_LISTS ? settings->lookahead + 1 : LARGEST_LISTS;
     const int64_t answer =
         brine_detector_fresh(film->width, film->height, film->depth, settings->lookahead, settings->mode, settings->min,
-                             settings->max, driver->numbers, NUMBERS, driver->scores, SCORES * SCORE_NUMBERS);
+                             settings->max, driver->numbers, BRINE_NUMBERS, driver->scores, BRINE_SCORES);
     if (answer >= 0)
         return DONE;
     snprintf(what, sizeof what, "%.256s: %zu × %zu at %u bits, mode %s", film->name, film->width, film->height,
@@ -78,10 +72,10 @@ static void advance(struct driver *driver)
 static enum status step(struct driver *driver, const struct film *film, uint64_t previous, struct verdict *verdict)
 {
     const size_t pairs = driver->pairs;
-    const size_t inter = driver->mode == MODE_NONE ? 0 : pairs;
-    const size_t others = driver->mode == MODE_STANDARD ? pairs : 0;
+    const size_t inter = driver->mode == BRINE_MODE_NONE ? 0 : pairs;
+    const size_t others = driver->mode == BRINE_MODE_STANDARD ? pairs : 0;
     const int64_t answer = brine_detector_step(
-        driver->numbers, NUMBERS, driver->scores, SCORES * SCORE_NUMBERS, pairs + 1, verdict->frame, previous,
+        driver->numbers, BRINE_NUMBERS, driver->scores, BRINE_SCORES, pairs + 1, verdict->frame, previous,
         driver->inter, inter, driver->importance, others, driver->threshold, others);
 
     if (answer < 0) {
@@ -91,9 +85,10 @@ static enum status step(struct driver *driver, const struct film *film, uint64_t
     }
     verdict->cut = answer == 1 || answer == 3;
     verdict->scored = answer >= 2;
+    const double *score = driver->scores + driver->numbers[BRINE_OFFSET] * BRINE_SCORE_DOUBLES;
     if (verdict->scored)
-        memcpy(verdict->score, driver->scores + driver->numbers[OFFSET] * SCORE_NUMBERS, sizeof verdict->score);
-    verdict->release = driver->numbers[RELEASE];
+        memcpy(verdict->score, score, sizeof verdict->score);
+    verdict->release = driver->numbers[BRINE_RELEASE_NUMBER];
     return DONE;
 }
 

@@ -2,6 +2,7 @@
 #ifndef DRIVER_H
 #define DRIVER_H
 
+#include "brinepulley.h"
 #include "gauge.h"
 
 struct settings {
@@ -11,15 +12,12 @@ struct settings {
     uint64_t max;
 };
 
-/* The five numbers of a score, by their places in the library's `scores`. */
-enum score { INTER, IMPORTANCE, BACKWARD, FORWARD, THRESHOLD, SCORE_NUMBERS };
-
 /* What was decided on one frame. */
 struct verdict {
     uint64_t frame;
     bool cut;    /* a scene begins here; the first frame always begins one */
     bool scored; /* whether there is a score */
-    double score[SCORE_NUMBERS];
+    double score[BRINE_SCORE_DOUBLES];
     uint64_t release; /* frames numbered below may be purged */
 };
 

@@ -82,13 +82,13 @@ enum status gauge_next(struct gauge *gauge, struct pair *pair, bool *ended)
     if (fetched != FRAME)
         return fetched == END ? DONE : FAILED;
     int64_t answer = 0;
-    if (gauge->mode == MODE_FAST)
+    if (gauge->mode == BRINE_MODE_FAST)
         answer = measure_fast(gauge, pair);
-    if (gauge->mode == MODE_STANDARD)
+    if (gauge->mode == BRINE_MODE_STANDARD)
         answer = measure_standard(gauge, pair);
     if (answer < 0)
         return say_refused(gauge->film->name, answer);
-    return gauge->mode == MODE_STANDARD ? costs_next(gauge->costs, &pair->inter) : DONE;
+    return gauge->mode == BRINE_MODE_STANDARD ? costs_next(gauge->costs, &pair->inter) : DONE;
 }
 
 void gauge_free(struct gauge *gauge)

@@ -5,9 +5,6 @@
 #include "costs.h"
 #include "film.h"
 
-/* The modes, by document 01's numbers. */
-enum mode { MODE_NONE = 0, MODE_FAST = 1, MODE_STANDARD = 2 };
-
 /* What the detector reads of one pair of frames. */
 struct pair {
     double inter;

@@ -1,5 +1,7 @@
 #include "options.h"
 
+#include "brinepulley.h"
+
 #include <errno.h>
 #include <stdlib.h>
 #include <string.h>
@@ -17,7 +19,8 @@ static bool read_number(const char *text, uint64_t *number)
 
 static bool read_mode(const char *text, uint32_t *mode)
 {
-    static const char *const names[] = {[MODE_NONE] = "none", [MODE_FAST] = "fast", [MODE_STANDARD] = "standard"};
+    /* by document 01's numbers */
+    static const char *const names[] = {"none", "fast", "standard"};
     for (uint32_t i = 0; i < sizeof names / sizeof names[0]; i++)
         if (strcmp(text, names[i]) == 0) {
             *mode = i;
@@ -81,7 +84,7 @@ static enum status take_word(struct options *options, const char *word)
 /* What the words ask for together. */
 static enum status fits_together(const struct options *options)
 {
-    const bool standard = options->settings.mode == MODE_STANDARD;
+    const bool standard = options->settings.mode == BRINE_MODE_STANDARD;
     if (options->film == NULL)
         return say_usage("decide wants a film");
     if (standard && options->inter == NULL)
@@ -93,7 +96,7 @@ static enum status fits_together(const struct options *options)
 
 enum status options_read(struct options *options, int count, char **words)
 {
-    *options = (struct options){.settings = {.mode = MODE_FAST, .lookahead = 5, .min = 0, .max = UINT32_MAX}};
+    *options = (struct options){.settings = {.mode = BRINE_MODE_FAST, .lookahead = 5, .min = 0, .max = UINT32_MAX}};
     for (int i = 0; i < count; i++) {
         enum status status = DONE;
         if (!has_value(words[i]))

@@ -21,7 +21,7 @@ enum status picture_read_pgm(struct picture *picture, const char *path);
 void picture_free(struct picture *picture);
 
 /* The mean of each square of factor × factor samples, rounded to the nearest, a half up. Samples right of and below the
-   last whole square are left out. This is the command's own: it is not proved. `to` has room for the reduced picture. */
+   last whole square are left out. This is the command's own and is not proved. `to` has room for the reduced samples. */
 void picture_reduce(uint8_t *to, const uint8_t *from, size_t width, size_t height, size_t factor);
 
 #endif

@@ -20,7 +20,7 @@ void report_start(struct report *report, bool csv)
 static void add_csv(struct page *page, const struct verdict *verdict)
 {
     page_add(page, "%" PRIu64 ",%d", verdict->frame, verdict->cut);
-    for (size_t i = 0; i < SCORE_NUMBERS; i++) {
+    for (size_t i = 0; i < BRINE_SCORE_DOUBLES; i++) {
         char number[NUMBER_ROOM] = "";
         if (verdict->scored)
             number_text(number, verdict->score[i]);
@@ -32,7 +32,7 @@ static void add_csv(struct page *page, const struct verdict *verdict)
 static void add_line(struct page *page, const struct verdict *verdict)
 {
     page_add(page, "%7" PRIu64 " %5s", verdict->frame, verdict->frame == 0 ? "first" : verdict->cut ? "cut" : ".");
-    for (size_t i = 0; i < SCORE_NUMBERS; i++) {
+    for (size_t i = 0; i < BRINE_SCORE_DOUBLES; i++) {
         if (!verdict->scored)
             page_add(page, " %10s", "-");
         else if (verdict->score[i] != verdict->score[i])

@@ -6,20 +6,23 @@
 #include <stdlib.h>
 #include <string.h>
 
-/* Document 01's words, by number. */
+/* Document 01's words, by number. There n is the frame's number, p the previous keyframe's, L the set's length, A the
+   lookahead offset and o the offset. */
 static const char *const refusals[] = {
     [1] = "a side is 0 or above 8,192, or stride below width",
-    [2] = "origin + (height − 1) × stride + width exceeds the samples, or a list hasn't its transform's length",
-    [3] = "two planes differ in width or height",
+    [2] = "origin + (height − 1) × stride + width exceeds the samples; a transform list hasn't its own transform's length, "
+          "16 or 64",
+    [3] = "two planes differ in width or height (work plane included)",
     [4] = "cost list shorter than the block count",
     [5] = "depth isn't 8",
     [6] = "a resolution side outside 1 to 8,192, or mode not 0 None, 1 Fast, 2 Standard",
-    [7] = "the frame number is 0 or at or above 2^32, the previous keyframe is above it, or it is not one above the last",
-    [8] = "set length above 16, or above the last accepted call's",
-    [9] = "a set of one frame with no lookahead (the crate stops there)",
-    [10] = "a read list of the wrong length, an inter cost NaN, infinite or below 0, or importance or threshold infinite "
-           "or below 0",
-    [11] = "a state that no detector can have",
+    [7] = "n is 0 or at or above 2^32, p > n, or n not one above the last accepted call's, if there was one",
+    [8] = "L above 16, or above the last accepted call's, if there was one",
+    [9] = "L = 1, A = 0, o = 0, mode not None (the crate stops there)",
+    [10] = "a read list of the wrong length; inter cost NaN, infinite or below 0; importance or threshold infinite or "
+           "below 0 (NaN allowed); a transform entry out of range",
+    [11] = "a state with settings that 5 or 6 forbid; over 15 entries, over 10 if A = 5; o not below the count, or o not A "
+           "when empty; an entry whose inter cost 10 forbids",
 };
 
 static void say_line(const char *format, va_list words)

@@ -11,8 +11,8 @@ enum { LINE_ROOM = 1024 };
 /* What a header line turned out to be. */
 enum line { LINE_READ, LINE_NONE, LINE_CUT, LINE_LONG, LINE_FAULT };
 
-/* Reads up to a line end into `line`, without it. LINE_NONE: the file ended before the first byte, and `line` is not set.
-   LINE_LONG: no header has such a line, one with a zero byte included. */
+/* Reads up to a line end into `line`, without it. LINE_NONE: the file ended before the first byte, and `line` is not
+   set. LINE_LONG: no header has such a line; one with a zero byte counts as such. */
 static enum line read_line(FILE *file, char line[LINE_ROOM])
 {
     size_t used = 0;
@@ -43,21 +43,22 @@ static bool read_size(const char *digits, size_t *size)
     return errno == 0 && *end == '\0';
 }
 
-/* Bits of a sample by what stands behind the colour's name: nothing or a siting gives 8, "p10" gives 10. */
-static bool read_depth(const char *rest, uint32_t *depth)
+/* Bits of a sample by what stands behind the colour's name: nothing, and a siting of C420, gives 8; C420p10 and Cmono10
+   have 10. */
+static bool read_depth(struct film *film, const char *rest)
 {
-    static const char *const sitings[] = {"", "jpeg", "mpeg2", "paldv"};
+    static const char *const sitings[] = {"jpeg", "mpeg2", "paldv"};
+    size_t bits = 8;
+    bool known = rest[0] == '\0';
+
     for (size_t i = 0; i < sizeof sitings / sizeof sitings[0]; i++)
-        if (strcmp(rest, sitings[i]) == 0) {
-            *depth = 8;
-            return true;
-        }
-    size_t bits = 0;
-    const char *digits = rest[0] == 'p' ? rest + 1 : rest;
-    if (!read_size(digits, &bits) || bits == 0 || bits > 64)
-        return false;
-    *depth = (uint32_t)bits;
-    return true;
+        known = known || (film->colour == COLOUR_420 && strcmp(rest, sitings[i]) == 0);
+    if (!known && film->colour == COLOUR_MONO)
+        known = read_size(rest, &bits);
+    else if (!known)
+        known = rest[0] == 'p' && read_size(rest + 1, &bits);
+    film->depth = (uint32_t)bits;
+    return known && bits > 0 && bits <= 64;
 }
 
 static bool read_colour(struct film *film, const char *name)
@@ -71,7 +72,7 @@ static bool read_colour(struct film *film, const char *name)
         const size_t length = strlen(colours[i].name);
         if (strncmp(name, colours[i].name, length) == 0) {
             film->colour = colours[i].colour;
-            return read_depth(name + length, &film->depth);
+            return read_depth(film, name + length);
         }
     }
     return false;

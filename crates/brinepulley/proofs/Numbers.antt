@@ -13,7 +13,7 @@ use mir.Facts.{toZ-ofZ}
 use Rattle.answer.specs.Answer.{Answer, gives, refused, answered}
 use Rattle.brinepulley.specs.Coded.{coded, done, Small}
 
-pub read-small : (n : ℕ) → n < 2 ^ 63 → toZ w64 n ≡ pos n
+read-small : (n : ℕ) → n < 2 ^ 63 → toZ w64 n ≡ pos n
 read-small n h = rw (lt-ltb n (2 ^ 63) h)
 
 mag-neg : (n : ℕ) → n < 2 ^ 32 → mag (negℤ (pos n)) < 2 ^ 63

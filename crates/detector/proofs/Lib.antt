@@ -4,4 +4,5 @@ pub mod Calls
 pub mod Views
 pub mod Costs
 pub mod Reach
+pub mod Left
 pub mod Unique

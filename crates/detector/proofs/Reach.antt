@@ -4,18 +4,20 @@
 use mathlib.Core.Path.{_≡_, refl, _∙_}
 use mathlib.Core.Bool.{Bool, true, false, not, _&&_, cond}
 use mathlib.Core.List.{List, [], _∷_}
+use mathlib.Core.Option.{Option, none, some}
 use Prim.Native.Nat.{ℕ, _+_, _-_, _≤_, _<_}
 use native.Mathlib.Omega.{arith}
 use borrow.Author.Tests.{lt-ltb, ltb-true, ltb-false, leb-false, eq-eqb, ne-eqb, eqb-true, eqb-false}
 use lib.Dec.{eqb, ltb, leb}
-use lib.ListN.{length, take}
-use lib.Seq.{length-take-le}
+use lib.ListN.{length, take, getD}
+use lib.Seq.{length-take-le, getD-take}
 use Rattle.answer.specs.Answer.{Answer, gives, refused}
 use Rattle.answer.specs.Refusal.{_orElse_}
 use Rattle.settings.specs.declared.Settings.{Settings}
 use Rattle.settings.specs.Settings.{room, normalLookahead, lookaheadOffset, isNone, isFast, isScaled, fastThreshold, settingsFault}
 use Rattle.score.specs.declared.ScenecutResult.{ScenecutResult}
 use Rattle.score.specs.declared.Measure.{Measure}
+use Rattle.score.specs.Deque.{noScore}
 use Rattle.score.specs.Search.{anyOf}
 use Rattle.score.specs.Scores.{scoreOf}
 use Rattle.score.specs.Costs.{forbidden}
@@ -203,6 +205,41 @@ module _ (s : View) (c : Call) (e : stateFault s ≡ 0) where
       by : (b : Bool) → eqb (stepFault s c) 0 ≡ b → stateFault (stepOf s c .state) ≡ 0
       by true p = rw p (accepted-passes (eqb-true _ _ p))
       by false p = rw p e
+
+-- ---- where the score is found
+
+abbrev pub scoreIn : Answer Verdict → Option ScenecutResult
+scoreIn (gives v) = v .score
+scoreIn (refused f) = none
+
+-- rule 7 does not drop entry o
+module _ (g : Settings) (t : Turn) (w : Good g t) where
+  entry-kept : (b : Bool) → ltb (normalLookahead + lookaheadOffset g) (length (t .entries)) ≡ b
+      → getD (cond b (take (length (t .entries) - 1) (t .entries)) (t .entries)) (t .offset) noScore ≡ getD (t .entries) (t .offset) noScore
+  entry-kept true e =
+      let i = w .spare (ltb-true _ _ e) in
+      getD-take (length (t .entries) - 1) (t .entries) (t .offset) noScore (omega arith)
+  entry-kept false e = refl
+
+-- the score that a step answers is the entry at the next state's offset
+module _ (s : View) (c : Call) (e : ScenecutResult) where
+  none-given : {A : Type 0} → _≡_ {A = Option ScenecutResult} none (some e) → A
+  none-given h = absurd (let z : _≡_ {A = ℕ} 0 1 = cc in omega arith)
+
+  pub score-stands : scoreIn (stepOf s c .answer) ≡ some e → getD (stepOf s c .state .entries) (stepOf s c .state .offset) noScore ≡ e
+  unfolding stepOf acceptedOf
+  score-stands h = by (eqb (stepFault s c) 0) (leb (c .setLength) (lookaheadOffset (s .settings))) (isNone (s .settings)) refl refl refl
+    where
+      by : (x y z : Bool) → eqb (stepFault s c) 0 ≡ x → leb (c .setLength) (lookaheadOffset (s .settings)) ≡ y → isNone (s .settings) ≡ z → getD (stepOf s c .state .entries) (stepOf s c .state .offset) noScore ≡ e
+      by false y z p q r = none-given (rw p at h)
+      by true true z p q r = none-given (rw (p, q) at h)
+      by true false true p q r = none-given (rw (p, q, r) at h)
+      by true false false p q r =
+          let t = progressOf s c in
+          let k : _≡_ {A = Option ScenecutResult} (some (getD (t .entries) (t .offset) noScore)) (some e) = rw (p, q, r) at h in
+          let same : getD (t .entries) (t .offset) noScore ≡ e = cc in
+          let w = good s c (fine s c (eqb-true _ _ p)) r (leb-false _ _ q) in
+          rw (p, q, r) (entry-kept (s .settings) t w (ltb (normalLookahead + lookaheadOffset (s .settings)) (length (t .entries))) refl ∙ same)
 
 then-passes : (before : Outcome) (c : Call) → stateFault (before .state) ≡ 0 → stateFault (thenStep before c .state) ≡ 0
 then-passes before c e = by (before .answer)

@@ -1,6 +1,5 @@
 // Steps one after the other. A caller takes the decision apart, and hands a refusal on.
 ghost use mathlib.Core.Path.{_≡_};
-ghost use Prim.Native.Nat.{min};
 ghost use lib.ListN.{take, drop};
 ghost use Rattle.refusals.specs.State.{call};
 ghost use Rattle.detector.specs.Step.{outcome};
@@ -28,18 +27,12 @@ pub fn then_step(
     super::step(state, length, n, p, inter, importance, threshold)
 }
 
-fn lesser(a: usize, b: usize) -> usize
-    ensures { λ r. ⌜ r ≡ min a b ⌝ }
-{
-    if a <= b { a } else { b }
-}
-
 // At most `items` numbers of a list, from a place on.
 fn window(list: &[f64], from: usize, items: usize) -> &[f64]
     ensures { λ r. ⌜ now r ≡ take items (drop from (now (list .entry))) ⌝ }
 {
-    let start = lesser(from, list.len());
-    let end = start + lesser(items, list.len() - start);
+    let start = sums::lesser(from, list.len());
+    let end = start + sums::lesser(items, list.len() - start);
     &list[start..end]
 }
 
@@ -56,7 +49,7 @@ pub fn run(
 ) -> Stepped
     ensures { λ r. ⌜ outcome r ≡ runOf (outcome before) (callsOf (now (numbers .entry)) (now (lengths .entry)) (now (keyframes .entry)) (now (inter .entry)) (now (importance .entry)) (now (threshold .entry))) ⌝ }
 {
-    let calls = lesser(numbers.len(), lesser(lengths.len(), keyframes.len()));
+    let calls = sums::lesser(numbers.len(), sums::lesser(lengths.len(), keyframes.len()));
     let mut last = before;
     for j in 0..calls {
         let items = refusals::items_of(lengths[j]);

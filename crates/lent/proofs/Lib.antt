@@ -1,3 +1,4 @@
 pub mod Sizes
 pub mod Scores
 pub mod Unique
+pub mod Placed

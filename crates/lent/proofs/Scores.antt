@@ -73,7 +73,7 @@ pub put-last : (a : ℕ) (out ys : List Float) → a ≤ length out → putMid a
 put-last a out ys h = rw (drop-of-length-le (drop a out) {i = length out - a} (omega (arith, length-drop a out)), append-nil ys)
 
 -- as many entries as a deque holds are what it holds
-take-least : (n : ℕ) (l : List ScenecutResult) → take (length (take n l)) l ≡ take n l
+pub take-least : (n : ℕ) (l : List ScenecutResult) → take (length (take n l)) l ≡ take n l
 take-least zero l = refl
 take-least (suc n) [] = refl
 take-least (suc n) (e ∷ l) = ap (λ (r : List ScenecutResult). e ∷ r) (take-least n l)

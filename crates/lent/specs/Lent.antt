@@ -1,6 +1,6 @@
 -- The detector over lent places: what a call answers, and what the places hold at exit.
 use mathlib.Core.List.{List, _++_}
-use mathlib.Core.Bool.{Bool, not, cond}
+use mathlib.Core.Bool.{not, cond}
 use mathlib.Core.Option.{Option, none, some}
 use Prim.Native.Nat.{ℕ}
 use lib.Ieee.{Float}

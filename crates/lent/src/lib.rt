@@ -38,7 +38,7 @@ fn lent_deque(scores: &[f64], count: usize) -> ScoreDeque
     let none = ScenecutResult::new(0.0, 0.0, 0.0, 0.0, 0.0);
     let entries = [none; Settings::ROOM];
     let mut out = ScoreDeque { entries, count };
-    let n = score::lesser(count, Settings::ROOM);
+    let n = sums::lesser(count, Settings::ROOM);
     for i in 0..n {
         let at = i * DOUBLES;
         let e = front_score(&scores[at..]);
@@ -84,7 +84,7 @@ fn lent_state(numbers: &[u64], scores: &[f64]) -> State
 fn held(d: ScoreDeque) -> usize
     ensures { λ r. ⌜ r ≡ length (content d) ⌝ }
 {
-    score::lesser(d.count, Settings::ROOM)
+    sums::lesser(d.count, Settings::ROOM)
 }
 
 // A score in the first five places of a part.

@@ -95,8 +95,7 @@ module _ (level : Float) where
       = rw n at (sym (update-take (m .inter) true reach c l)) in
       rw (read, behind)
 
-  -- ---- lengths, and the cut of rule 7
-
+  -- an entry for each pair
   pub entries-long : (fast : Bool) (later : List Float) (h : List Item) → length (entriesOf fast level later h) ≡ length h
   entries-long fast later [] = refl
   entries-long fast later (i ∷ h) = ap suc (entries-long fast (cost i ∷ later) h)

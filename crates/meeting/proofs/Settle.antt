@@ -29,7 +29,7 @@ use Rattle.meeting.specs.History.{reach, kept, Item, history, entriesOf,
 use Rattle.meeting.proofs.Closed.{score-entries, score-take, entries-long, trim, history-long}
 
 -- rules 4 to 7, for a call that is not refused, with a set longer than A
-pub step-scored : (s : View) (c : Call) → stepFault s c ≡ 0 → lookaheadOffset (s .settings) < c .setLength → isNone (s .settings) ≡ false
+step-scored : (s : View) (c : Call) → stepFault s c ≡ 0 → lookaheadOffset (s .settings) < c .setLength → isNone (s .settings) ≡ false
     → stepOf s c ≡ scoredOf s c (progressOf s c)
 unfolding stepOf acceptedOf
 step-scored s c r h mode = rw (r, lt-leb (c .setLength) (lookaheadOffset (s .settings)) h, mode)

@@ -10,12 +10,12 @@ use Rattle.refusals.specs.State.{View, Call}
 use Rattle.refusals.specs.Refusals.{stepFault}
 use Rattle.meeting.specs.Films.{Film, callAt, runFrom, answersTo, stateAfter, compared}
 
--- Standard or Fast mode, and a lookahead distance of at least 5
+-- Standard or Fast mode (every other number is refused), and a lookahead distance of at least 5
 pub record Suits (g : Settings) : Type 0 where
   pub mode : isNone g ≡ false
   pub lookahead : normalLookahead ≤ g .«lookahead_distance»
 
--- the frames of a set, at the least
+-- how many frames a set has at the least: "L ≥ 7"
 abbrev pub fullSet : ℕ
 fullSet = 7
 
@@ -28,8 +28,8 @@ pub record Accepted (f : Film) (g : Settings) (a j : ℕ) : Type 0 where
 abbrev pub callsToMeet : Bool → ℕ
 callsToMeet fast = cond fast 5 10
 
--- 1. An old run begun at a and a fresh one begun at a later s: after j calls from s on, ten (five) or more, "the two states are equal in
--- all but first and release number".
+-- 1. An old run begun at a, and a fresh one begun at a later s, on the same film. After j calls from s on, ten (five) or more, the two
+-- states are equal in all but the first number and the release number. s = a + 1 is enough.
 abbrev pub Meeting : Type 0
 Meeting =
     (f : Film) (g : Settings) → Suits g → (a s j : ℕ) → a < s → callsToMeet (isFast g) ≤ j → Accepted f g a (s - a + j) → Accepted f g s j
@@ -45,7 +45,7 @@ SameAnswers =
 abbrev pub Acceptance : Type 0
 Acceptance = (f : Film) (g : Settings) → Suits g → (a s j : ℕ) → a < s → Accepted f g a (s - a + j) → Accepted f g s j
 
--- 4. All three in one: the old run's acceptance is enough.
+-- 4. All three in one: it is enough that the old run's calls are accepted.
 abbrev pub Demand3 : Type 0
 Demand3 =
     (f : Film) (g : Settings) → Suits g → (a s j : ℕ) → a < s → callsToMeet (isFast g) ≤ j → Accepted f g a (s - a + j) → (cs : List Call)

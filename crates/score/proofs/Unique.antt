@@ -1,12 +1,9 @@
 -- Each contract of this crate allows one outcome alone. Assumes nothing.
 use mathlib.Core.Path.{sym, _∙_}
 use mathlib.Core.Bool.{Bool}
-use Prim.Native.Nat.{ℕ}
 use Rattle.answer.specs.Unique.{OneOutcome}
 use Rattle.score.specs.declared.ScenecutResult.{ScenecutResult}
 use Rattle.score.specs.Deque.{Held, held}
-use Rattle.score.proofs.lesser.Kinds as lesser-kinds
-use Rattle.score.proofs.lesser.Reads as lesser-reads
 use Rattle.score.proofs.ScenecutResult.new.Kinds as new-kinds
 use Rattle.score.proofs.ScenecutResult.new.Reads as new-reads
 use Rattle.score.proofs.ScoreDeque.empty.Kinds as empty-kinds
@@ -23,10 +20,6 @@ use Rattle.score.proofs.decision.any_forbidden_entry.Kinds as any-forbi
 use Rattle.score.proofs.decision.any_forbidden_entry.Reads as any-forbidden-entry-reads
 use Rattle.score.proofs.decision.adaptive_scenecut.Kinds as adaptive-scenecut-kinds
 use Rattle.score.proofs.decision.adaptive_scenecut.Reads as adaptive-scenecut-reads
-
-pub lesser-unique : OneOutcome 0 lesser-kinds.ps lesser-kinds.r ℕ (λ κs r e. r) lesser-reads.Post
-unfolding OneOutcome
-lesser-unique κs a r r′ e e′ p q = p ∙ sym q
 
 pub new-unique : OneOutcome 0 new-kinds.ps new-kinds.r ScenecutResult (λ κs r e. r) new-reads.Post
 unfolding OneOutcome

@@ -1,7 +1,7 @@
 // The scores of analyze.rs: `ScenecutResult`, and the deque that holds them as an array and a count.
 ghost use mathlib.Core.Path.{_≡_};
 ghost use mathlib.Core.List.{[], _∷_};
-ghost use Prim.Native.Nat.{min, _≤_};
+ghost use Prim.Native.Nat.{_≤_};
 ghost use lib.ListN.{take, getD};
 ghost use Rattle.settings.specs.Settings.{room};
 ghost use Rattle.score.specs.Deque.{scoreFrom, noScore, content, held, holding, trimmedTo};
@@ -56,13 +56,6 @@ impl ScenecutResult {
     }
 }
 
-// The lesser of two counts.
-pub fn lesser(a: usize, b: usize) -> usize
-    ensures { λ r. ⌜ r ≡ min a b ⌝ }
-{
-    if a <= b { a } else { b }
-}
-
 impl ScoreDeque {
     pub fn empty() -> ScoreDeque
         ensures { λ r. ⌜ held r ≡ holding [] ⌝ }
@@ -78,7 +71,7 @@ impl ScoreDeque {
     fn within(self) -> ScoreDeque
         ensures { λ r. ⌜ (held r ≡ holding (content self)) × (r .count ≤ room) ⌝ }
     {
-        let count = lesser(self.count, Settings::ROOM);
+        let count = sums::lesser(self.count, Settings::ROOM);
         let mut out = self;
         out.count = count;
         out
@@ -88,7 +81,7 @@ impl ScoreDeque {
     fn pushed_front(self, s: ScenecutResult) -> ScoreDeque
         ensures { λ r. ⌜ held r ≡ holding (take room (s ∷ content self)) ⌝ }
     {
-        let last = lesser(Settings::ROOM - 1, self.count);
+        let last = sums::lesser(Settings::ROOM - 1, self.count);
         let mut out = self;
         let mut carried = s;
         let mut i = 0;
@@ -106,7 +99,7 @@ impl ScoreDeque {
     pub fn entry(self, i: usize) -> ScenecutResult
         ensures { λ r. ⌜ r ≡ getD (content self) i noScore ⌝ }
     {
-        let count = lesser(self.count, Settings::ROOM);
+        let count = sums::lesser(self.count, Settings::ROOM);
         if i < count {
             return self.entries[i];
         }
@@ -118,7 +111,7 @@ impl ScoreDeque {
     pub fn trimmed(self, most: usize) -> ScoreDeque
         ensures { λ r. ⌜ held r ≡ holding (trimmedTo most (content self)) ⌝ }
     {
-        let count = lesser(self.count, Settings::ROOM);
+        let count = sums::lesser(self.count, Settings::ROOM);
         let mut out = self;
         if most < count {
             out.count = count - 1;

@@ -15,7 +15,7 @@ fn backward_cost(d: ScoreDeque, o: usize, own: f64) -> f64
     requires { ⌜ d .count ≤ room ⌝ }
     ensures { λ r. ⌜ r ≡ backwardOf o own (content d) ⌝ }
 {
-    let n = super::lesser(o, d.count);
+    let n = sums::lesser(o, d.count);
     let mut least = F64_MAX;
     let mut i = 0;
     let cost = loop {
@@ -86,7 +86,7 @@ fn updated(d: ScoreDeque, o: usize, new: f64) -> ScoreDeque
     requires { ⌜ d .count ≤ room ⌝ }
     ensures { λ r. ⌜ content r ≡ updatedOf o new (content d) ⌝ }
 {
-    let n = super::lesser(o, d.count);
+    let n = sums::lesser(o, d.count);
     let mut out = d;
     for i in 0..n {
         let e = out.entries[i];

@@ -5,6 +5,8 @@ use lib.Ieee.{Float}
 use Rattle.answer.specs.Unique.{OneOutcome}
 use Rattle.sums.proofs.distance.Kinds as distance-kinds
 use Rattle.sums.proofs.distance.Reads as distance-reads
+use Rattle.sums.proofs.lesser.Kinds as lesser-kinds
+use Rattle.sums.proofs.lesser.Reads as lesser-reads
 use Rattle.sums.proofs.quotient.Kinds as quotient-kinds
 use Rattle.sums.proofs.quotient.Reads as quotient-reads
 
@@ -15,3 +17,7 @@ distance-unique κs a r r′ e e′ p q = p ∙ sym q
 pub quotient-unique : OneOutcome 0 quotient-kinds.ps quotient-kinds.r Float (λ κs r e. r) quotient-reads.Post
 unfolding OneOutcome
 quotient-unique κs a r r′ e e′ p q = p ∙ sym q
+
+pub lesser-unique : OneOutcome 0 lesser-kinds.ps lesser-kinds.r ℕ (λ κs r e. r) lesser-reads.Post
+unfolding OneOutcome
+lesser-unique κs a r r′ e e′ p q = p ∙ sym q

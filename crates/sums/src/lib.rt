@@ -1,5 +1,6 @@
-// The two small numbers that every measure is made of: how far two samples lie apart, and a total over a count.
+// Small numbers that the crates above are made of: how far two samples lie apart, a total over a count, the lesser of two.
 ghost use mathlib.Core.Path.{_≡_};
+ghost use Prim.Native.Nat.{min};
 ghost use Rattle.sums.specs.Sums.{apart};
 ghost use Rattle.sums.specs.Quotient.{quotientOf};
 
@@ -17,4 +18,11 @@ pub fn quotient(total: u64, count: u64) -> f64
     ensures { λ r. ⌜ r ≡ quotientOf total count ⌝ }
 {
     std::num::nearest_u64_to_f64(total) / std::num::nearest_u64_to_f64(count)
+}
+
+// The lesser of two numbers.
+pub fn lesser(a: usize, b: usize) -> usize
+    ensures { λ r. ⌜ r ≡ min a b ⌝ }
+{
+    if a <= b { a } else { b }
 }

@@ -1,16 +1,18 @@
+-- `lent::lent_deque` meets its contract. After i turns the first i entries are the first i scores. Assumes nothing.
 use mathlib.Core.Path.{_≡_, refl, _∙_, ap}
 use Prim.Native.Nat.{_*_, _-_, _≤_, min}
 use native.Mathlib.Omega.{arith}
 use borrow.Author.Needs.{needs}
 use lib.ListN.{length, take, drop, length-drop, length-take, length-set}
 use lib.Seq.{take-all}
-use Rattle.lent.specs.Places.{scoresOf, frontScore}
+use Rattle.settings.specs.Settings.{room}
+use Rattle.lent.specs.Places.{scoreLong, scoresOf, frontScore}
 use Rattle.lent.proofs.Scores.{read-more, read-all}
 use Rattle.lent.proofs.lent_deque.Statement.{statement}
 use Rattle.lent.proofs.lent_deque.Tie as tie
 
 abbrev Inv-loop : tie.InvT-loop
-Inv-loop scores count out₀ n i₀ out i = (i ≤ n) × ((take i (out .entries) ≡ take i (scoresOf 16 scores)) × ((length (out .entries) ≡ 16) × ((out .count ≡ count) × (n ≡ min count 16))))
+Inv-loop scores count out₀ n i₀ out i = (i ≤ n) × ((take i (out .entries) ≡ take i (scoresOf room scores)) × ((length (out .entries) ≡ room) × ((out .count ≡ count) × (n ≡ min count room))))
 
 abbrev μ-loop : tie.MeasureT-loop
 μ-loop scores count out₀ n i₀ out i = n - i
@@ -58,9 +60,9 @@ loop-again : tie.Need-loop-again Inv-loop μ-loop
 loop-again c =
     let b = c .before .before .before in
     let xs = b .before .before .before .before .args .scores .now in
-    let k : take (length xs - b .loop .i * 5) (drop (b .loop .i * 5) xs) ≡ drop (b .loop .i * 5) xs
-    = take-all (length xs - b .loop .i * 5) (drop (b .loop .i * 5) xs) (omega (arith, length-drop (b .loop .i * 5) xs)) in
-    let e : c .front-score .result ≡ frontScore (drop (b .loop .i * 5) xs) = c .front-score .ensures ∙ ap frontScore k in (
+    let k : take (length xs - b .loop .i * scoreLong) (drop (b .loop .i * scoreLong) xs) ≡ drop (b .loop .i * scoreLong) xs
+    = take-all (length xs - b .loop .i * scoreLong) (drop (b .loop .i * scoreLong) xs) (omega (arith, length-drop (b .loop .i * scoreLong) xs)) in
+    let e : c .front-score .result ≡ frontScore (drop (b .loop .i * scoreLong) xs) = c .front-score .ensures ∙ ap frontScore k in (
       omega arith,
       (rw e (read-more (b .loop .out .entries) xs (b .loop .i) (b .loop .inv .1 .1 .0) (omega arith) (b .loop .inv .1 .0)), (rw length-set (b .loop .inv .1 .1 .0), b .loop .inv .1 .1 .1)),
     )
@@ -69,7 +71,7 @@ returns : tie.Need-returns Inv-loop μ-loop
 returns c =
     let b = c .before in
     let a = b .before .before .before .before .args in
-    let i : b .loop .i ≡ min (a .count) 16 = omega arith in
+    let i : b .loop .i ≡ min (a .count) room = omega arith in
     rw (b .loop .inv .1 .1 .1 .0) (read-all (a .count) (b .loop .out .entries) (a .scores .now) (b .loop .inv .1 .1 .0) (rw i at (b .loop .inv .1 .0)))
 
 pub lent-deque-spec : {M : Type 1} → statement M

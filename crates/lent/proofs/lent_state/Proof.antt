@@ -1,3 +1,4 @@
+-- `lent::lent_state` meets its contract: each field is read from its place. Assumes nothing.
 use borrow.Author.Needs.{needs}
 use Rattle.lent.proofs.lent_state.Statement.{statement}
 use Rattle.lent.proofs.lent_state.Tie as tie

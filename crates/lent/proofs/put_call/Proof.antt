@@ -1,11 +1,12 @@
-use mathlib.Core.Path.{_≡_, _∙_}
+-- `lent::put_call` meets its contract: six stores behind the settings, up to the end. Assumes nothing.
+use mathlib.Core.List.{append-nil}
+use mathlib.Core.Path.{_∙_}
 use native.Mathlib.Omega.{arith}
+use borrow.Author.Needs.{needs}
 use lib.ListN.{length-set, drop-of-length-le}
 use lib.Seq.{sets-eq}
-use mathlib.Core.List.{append-nil}
 use Rattle.refusals.specs.State.{view}
 use Rattle.lent.specs.Places.{callNumbers}
-use borrow.Author.Needs.{needs}
 use Rattle.lent.proofs.put_call.Statement.{statement}
 use Rattle.lent.proofs.put_call.Tie as tie
 

@@ -1,34 +1,34 @@
-use mathlib.Core.List.{List, _∷_, _++_}
+-- `lent::put_deque` meets its contract. After i turns the first i entries are placed; each is put through the part that starts at its
+-- place. Assumes nothing.
+use mathlib.Core.List.{_++_}
+use mathlib.Core.Path.{_≡_, sym, _∙_}
+use Prim.Native.Nat.{_+_, _*_, _-_, _≤_, _<_}
 use native.Mathlib.Numerals.{add-one}
-use lib.ListN.{getD}
-use borrow.Rule.Slice.PartMut.{putMid, same-len-mid}
-use Rattle.score.specs.Deque.{content}
-use Rattle.score.specs.Deque.{noScore}
-use Rattle.lent.proofs.Scores.{put-last, take-content}
-use mathlib.Core.Path.{_≡_, refl, sym, _∙_, ap}
-use Prim.Native.Nat.{ℕ, _+_, _*_, _-_, _≤_, _<_}
 use native.Mathlib.Omega.{arith}
 use borrow.Author.Needs.{needs}
-use lib.ListN.{length, take, drop, length-drop, length-take, length-set}
+use borrow.Rule.Slice.PartMut.{putMid, same-len-mid}
+use lib.ListN.{length, take, drop, getD, length-drop, length-take}
 use lib.Seq.{take-all}
+use Rattle.settings.specs.Settings.{room}
+use Rattle.score.specs.Deque.{noScore, content}
 use Rattle.score.proofs.Room.{roomy}
-use Rattle.lent.specs.Places.{placed, doubles}
-use Rattle.lent.proofs.Scores.{place-more, placed-none}
+use Rattle.lent.specs.Places.{scoreLong, scoresLong, doubles, placed}
+use Rattle.lent.proofs.Scores.{put-last, take-content, place-more, placed-none}
 use Rattle.lent.proofs.put_deque.Statement.{statement}
 use Rattle.lent.proofs.put_deque.Tie as tie
 
 abbrev Inv-loop : tie.InvT-loop
-Inv-loop scores₀ d n i₀ scores i = (i ≤ n) × ((length scores ≡ 80) × (scores ≡ placed (take i (d .entries)) scores₀))
+Inv-loop scores₀ d n i₀ scores i = (i ≤ n) × ((length scores ≡ scoresLong) × (scores ≡ placed (take i (d .entries)) scores₀))
 
 abbrev μ-loop : tie.MeasureT-loop
 μ-loop scores₀ d n i₀ scores i = n - i
 
 -- the deque's room
-few : (c : tie.In-loop Inv-loop μ-loop) → c .before .loop .i < 16
+few : (c : tie.In-loop Inv-loop μ-loop) → c .before .loop .i < room
 few c =
     let k = c .before .before in
     let d = k .before .before .args .t2 in
-    let r : length (d .entries) ≡ 16 = roomy d _ (k .before .before .good .1 .0) in
+    let r : length (d .entries) ≡ room = roomy d _ (k .before .before .good .1 .0) in
     omega (arith, k .held .ensures, length-take (d .count) (d .entries))
 
 held-requires : tie.Need-held-requires Inv-loop μ-loop
@@ -75,13 +75,13 @@ loop-again c =
     let xs = b .before .before .before .args .scores .now in
     let i = b .loop .i in
     let out = b .loop .scores in
-    let r : length (d .entries) ≡ 16 = roomy d _ (b .before .before .before .good .1 .0) in
+    let r : length (d .entries) ≡ room = roomy d _ (b .before .before .before .good .1 .0) in
     let f = few (p .before .before .before) in
-    let e : p .put-score .last .0 ≡ doubles (getD (d .entries) i noScore) ++ drop 5 (drop (i * 5) out)
-    = p .put-score .ensures ∙ rw (take-all (length out - i * 5) (drop (i * 5) out) (omega (arith, length-drop (i * 5) out))) in
-    let q : putMid (i * 5) (length out - i * 5) out (p .put-score .last .0) ≡ placed (take (i + 1) (d .entries)) xs
-    = put-last (i * 5) out (p .put-score .last .0) (omega arith) ∙ rw (e, b .loop .inv .1 .1, add-one) (sym (place-more (d .entries) i xs (omega arith))) in
-    (omega arith, (same-len-mid (i * 5) (length out - i * 5) out (p .put-score .last .0) (p .put-score .kept .0) ∙ b .loop .inv .1 .0, q))
+    let e : p .put-score .last .0 ≡ doubles (getD (d .entries) i noScore) ++ drop scoreLong (drop (i * scoreLong) out)
+    = p .put-score .ensures ∙ rw (take-all (length out - i * scoreLong) (drop (i * scoreLong) out) (omega (arith, length-drop (i * scoreLong) out))) in
+    let q : putMid (i * scoreLong) (length out - i * scoreLong) out (p .put-score .last .0) ≡ placed (take (i + 1) (d .entries)) xs
+    = put-last (i * scoreLong) out (p .put-score .last .0) (omega arith) ∙ rw (e, b .loop .inv .1 .1, add-one) (sym (place-more (d .entries) i xs (omega arith))) in
+    (omega arith, (same-len-mid (i * scoreLong) (length out - i * scoreLong) out (p .put-score .last .0) (p .put-score .kept .0) ∙ b .loop .inv .1 .0, q))
 
 same-length : tie.Need-same-length Inv-loop μ-loop
 same-length c = omega arith

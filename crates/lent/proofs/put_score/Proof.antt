@@ -1,8 +1,9 @@
+-- `lent::put_score` meets its contract: five stores from the start on. Assumes nothing.
 use native.Mathlib.Omega.{arith}
+use borrow.Author.Needs.{needs}
 use lib.ListN.{length-set}
 use lib.Seq.{sets-eq}
 use Rattle.lent.specs.Places.{doubles}
-use borrow.Author.Needs.{needs}
 use Rattle.lent.proofs.put_score.Statement.{statement}
 use Rattle.lent.proofs.put_score.Tie as tie
 

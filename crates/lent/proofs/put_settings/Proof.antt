@@ -1,8 +1,9 @@
+-- `lent::put_settings` meets its contract: seven stores from the start on. Assumes nothing.
 use native.Mathlib.Omega.{arith}
+use borrow.Author.Needs.{needs}
 use lib.ListN.{length-set}
 use lib.Seq.{sets-eq}
 use Rattle.lent.specs.Places.{settingNumbers}
-use borrow.Author.Needs.{needs}
 use Rattle.lent.proofs.put_settings.Statement.{statement}
 use Rattle.lent.proofs.put_settings.Tie as tie
 
