@@ -2,20 +2,8 @@
 # Tests of what a C program links: the archive's names, what a program needs, the header by itself, the pkg-config file.
 # ARCHIVE, NM and COMPILER come from the Makefile. Its last line is 'N passed, M failed'.
 set -u
-room=$(mktemp -d) || exit 1
-trap 'rm -rf "$room"' EXIT
-passed=0
-failed=0
-
-verdict() { # NAME STATUS
-    if [ "$2" = 0 ]; then
-        passed=$((passed + 1))
-    else
-        failed=$((failed + 1))
-        echo "FAILED: archive: $1" >&2
-        sed 's/^/    /' "$room/log" >&2
-    fi
-}
+SUITE=archive
+. "$(dirname "$0")/verdict.sh"
 
 build=$(dirname "$ARCHIVE")/..
 header=$build/include/brinepulley.h
@@ -56,10 +44,10 @@ if command -v c++ > /dev/null 2>&1; then
     verdict "the header's names are C's in C++ too" $?
 fi
 
-# The quick start's program, as it stands in the documents: it compiles without a warning and finds its cut.
+# The quick start's program, as it stands in README.md: it compiles without a warning and finds its cut.
 root=$(dirname "$0")/..
-awk '/^## /{ in_it = /^## Quick start in C/ } in_it && /^    / { print substr($0, 5) }' \
-    "$root/README.md" "$root/docs/QUICKSTART.md" 2> /dev/null | sed '/^}/q' > "$room/quick.c"
+awk '/^## /{ in_it = /^## Quick start in C/ } in_it && /^    / { print substr($0, 5) }' "$root/README.md" |
+    sed '/^}/q' > "$room/quick.c"
 # shellcheck disable=SC2086 # words
 $COMPILER -std=c11 -Wall -Wextra -Werror -I"$build/include" $STATIC -o "$room/quick" "$room/quick.c" "$ARCHIVE" \
     > "$room/log" 2>&1 && $RUN "$room/quick" > "$room/log" && grep -qx 'frame 5: 60, a cut' "$room/log"
@@ -71,5 +59,4 @@ if command -v pkg-config > /dev/null 2>&1; then
     verdict "the pkg-config file" $?
 fi
 
-echo "$passed passed, $failed failed"
-[ "$failed" = 0 ]
+count

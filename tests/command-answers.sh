@@ -17,8 +17,8 @@ awk 'BEGIN {
 gives "fast mode, every line" "$expected" decide "$flat" --csv
 gives "fast is the default, words in any order" "$expected" decide --csv --mode fast --lookahead 5 --min 0 "$flat"
 $RUN "$COMMAND" decide - --csv < "$flat" > "$room/out" 2> "$room/err"
-cmp -s "$expected" "$room/out" && holds=yes || holds=no
-verdict "a film from the standard input" "$holds"
+cmp -s "$expected" "$room/out"
+verdict "a film from the standard input" $?
 for colour in - 420 420mpeg2 420paldv 422 444 mono; do
     film y4m 65 47 "$colour" $luma > "$room/odd.y4m"
     gives "colour space $colour, odd sides" "$expected" decide "$room/odd.y4m" --csv
@@ -28,8 +28,8 @@ done
 film y4m 16 16 mono $luma $luma > "$room/long.y4m"
 command_run decide --csv "$room/long.y4m"
 numbers=$(awk -F, 'NR == 21 || NR == 27 || NR == 33 { printf "%s ", $1 ":" $8 }' "$room/out")
-[ "$numbers" = "19:10 25:16 31:17 " ] && holds=yes || holds=no
-verdict "release numbers" "$holds"
+[ "$numbers" = "19:10 25:16 31:17 " ]
+verdict "release numbers" $?
 
 cuts_at "min 7 forbids the cut at 6" "0" "$flat" --min 7
 cuts_at "max 3 cuts every third frame" "0 3 6 9" "$flat" --max 3
@@ -47,27 +47,26 @@ cuts_at "a film of two frames" "0" "$room/two.y4m"
 # A film whose sides are halved: columns of 16 and 17 have the mean 16.5, which goes up to 17; so 40 lies 23 above.
 film y4m 482 242 mono 16/17 16/17 16/17 16/17 16/17 16/17 40 40 40 40 40 40 40 > "$room/halved.y4m"
 command_run decide --csv "$room/halved.y4m"
-[ "$(sed -n 8p "$room/out")" = "6,1,23,23,23,23,18,1" ] && holds=yes || holds=no
-verdict "planes are reduced by the scale rule" "$holds"
+[ "$(sed -n 8p "$room/out")" = "6,1,23,23,23,23,18,1" ]
+verdict "planes are reduced by the scale rule" $?
 
 # Standard: SATD of flat 90 against 128 is 38 * 64 / 8 = 304, and 304 * (1.0 - 0.7) is the threshold.
 awk 'BEGIN { for (n = 1; n <= 15; n++) print n == 6 ? "500" : " 2.5e0\r" }' > "$costs"
 command_run decide --csv --mode standard --inter "$costs" "$flat"
-[ "$(sed -n 8p "$room/out")" = "6,1,500,40,497.5,497.5,91.20000000000002,1" ] && holds=yes || holds=no
-verdict "standard mode, the cut's line" "$holds"
-[ "$(cuts)" = "0 6" ] && holds=yes || holds=no
-verdict "standard mode, the cuts" "$holds"
+[ "$(sed -n 8p "$room/out")" = "6,1,500,40,497.5,497.5,91.20000000000002,1" ]
+verdict "standard mode, the cut's line" $?
+[ "$(cuts)" = "0 6" ]
+verdict "standard mode, the cuts" $?
 film y4m 7 7 mono 1 2 3 4 > "$room/small.y4m"
 printf '1\n2\n3\n' > "$costs"
 command_run decide --csv --mode standard --inter "$costs" --lookahead 1 "$room/small.y4m"
-[ "$status" = 0 ] && [ "$(sed -n 3p "$room/out")" = "1,0,2,nan,0,0,nan,1" ] && holds=yes || holds=no
-verdict "standard mode without a whole block" "$holds"
+[ "$status" = 0 ] && [ "$(sed -n 3p "$room/out")" = "1,0,2,nan,0,0,nan,1" ]
+verdict "standard mode without a whole block" $?
 
 command_run decide "$flat"
-holds=no
 [ "$status" = 0 ] && [ "$(wc -l < "$room/out")" = 18 ] && [ "$(tail -n 1 "$room/out")" = "16 frames, 1 cut" ] &&
-    awk 'length($0) > 80 { exit 1 }' "$room/out" && grep -Eq '^ +6 +cut +40 ' "$room/out" && holds=yes
-verdict "lines for people" "$holds"
+    awk 'length($0) > 80 { exit 1 }' "$room/out" && grep -Eq '^ +6 +cut +40 ' "$room/out"
+verdict "lines for people" $?
 
 film pgm 20 9 255 50 > "$p"
 film pgm 20 9 255 57/58 > "$q"
@@ -81,14 +80,13 @@ END
 gives "measure" "$expected" measure "$p" "$q"
 
 command_run demo
-holds=no
 [ "$status" = 0 ] && [ ! -s "$room/err" ] && grep -q 'no cut at 9, no cut at 10' "$room/out" &&
     grep -q 'a cut at 18' "$room/out" && [ "$(grep -c ' CUT ' "$room/out")" = 1 ] &&
-    awk 'length($0) > 80 { exit 1 }' "$room/out" && holds=yes
-verdict "demo" "$holds"
+    awk 'length($0) > 80 { exit 1 }' "$room/out"
+verdict "demo" $?
 
 if [ -w /dev/full ]; then
     $RUN "$COMMAND" decide "$flat" > /dev/full 2> "$room/err"
-    [ $? = 2 ] && grep -q 'cannot write' "$room/err" && holds=yes || holds=no
-    verdict "a full disk" "$holds"
+    [ $? = 2 ] && grep -q 'cannot write' "$room/err"
+    verdict "a full disk" $?
 fi

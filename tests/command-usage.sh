@@ -3,17 +3,14 @@ a=$room/a.y4m
 film y4m 16 16 420 50 50 90 90 > "$a"
 
 command_run --help
-holds=no
-[ "$status" = 0 ] && grep -q 'decide FILM.y4m' "$room/out" && [ ! -s "$room/err" ] && holds=yes
-verdict "--help" "$holds"
+[ "$status" = 0 ] && grep -q 'decide FILM.y4m' "$room/out" && [ ! -s "$room/err" ]
+verdict "--help" $?
 command_run decide --help
-holds=no
-[ "$status" = 0 ] && grep -q 'decide FILM.y4m' "$room/out" && holds=yes
-verdict "decide --help" "$holds"
+[ "$status" = 0 ] && grep -q 'decide FILM.y4m' "$room/out"
+verdict "decide --help" $?
 command_run --version
-holds=no
-[ "$status" = 0 ] && grep -Eq '^brinepulley [0-9]+\.[0-9]+\.[0-9]+$' "$room/out" && holds=yes
-verdict "--version" "$holds"
+[ "$status" = 0 ] && grep -Eq '^brinepulley [0-9]+\.[0-9]+\.[0-9]+$' "$room/out"
+verdict "--version" $?
 
 ends "no command" 2 "which command"
 ends "an unknown command" 2 "no command 'dance'" dance
