@@ -15,30 +15,38 @@ use v_frame::{
 };
 
 type Scenes = scenes::SceneChangeDetector<u8>;
-type Fedded = fed::SceneChangeDetector<u8>;
+/// The crate's detector with all three measures given.
+type Given = fed::SceneChangeDetector<u8>;
 
 const ROUNDS: usize = 25;
 
-/// The best time of one call in nanoseconds, of both sides; rounds alternate.
-fn best<A, B>(calls: u32, mut theirs: impl FnMut() -> A, mut ours: impl FnMut() -> B) -> (f64, f64) {
-    let (mut a, mut b) = (f64::MAX, f64::MAX);
+/// The best time of one call in nanoseconds, of each side; rounds alternate.
+fn best<const N: usize>(calls: u32, sides: [&mut dyn FnMut(); N]) -> [f64; N] {
+    let mut best = [f64::MAX; N];
+    let mut sides = sides;
     for _ in 0..ROUNDS {
-        a = a.min(time(calls, &mut theirs));
-        b = b.min(time(calls, &mut ours));
+        for (least, side) in best.iter_mut().zip(&mut sides) {
+            *least = least.min(time(calls, *side));
+        }
     }
-    (a, b)
+    best
 }
 
-fn time<R>(calls: u32, f: &mut impl FnMut() -> R) -> f64 {
+fn time(calls: u32, f: &mut dyn FnMut()) -> f64 {
     let start = Instant::now();
     for _ in 0..calls {
-        black_box(f());
+        f();
     }
     start.elapsed().as_nanos() as f64 / f64::from(calls)
 }
 
-fn line(what: &str, size: &str, (theirs, ours): (f64, f64), more: &str) {
-    println!("| {what} | {size} | {:.1} | {:.1} | {:.2} | {more} |", theirs / 1000.0, ours / 1000.0, theirs / ours);
+/// A result that the compiler must make.
+fn seen<R>(result: R) {
+    black_box(result);
+}
+
+fn line(what: &str, size: &str, theirs: f64, ours: f64, more: &str) {
+    println!("| {what} | {size} | {:.3} | {:.3} | {:.2} | {more} |", theirs / 1000.0, ours / 1000.0, theirs / ours);
 }
 
 fn samples(count: usize, mut seed: u64) -> Vec<u8> {
@@ -54,48 +62,80 @@ fn frame(samples: &[u8], width: usize, height: usize) -> Arc<Frame<u8>> {
     Arc::new(Frame::of(Plane::over(samples.to_vec(), shape), Fed::default()))
 }
 
-fn planes(width: usize, height: usize) {
-    let size = format!("{width}×{height}");
-    let (a, b) = (samples(width * height, 1), samples(width * height, 2));
-    let (first, second) = (frame(&a, width, height), frame(&b, width, height));
-    let calls = (40_000_000 / (width * height)).max(4) as u32 / 4;
-    let one = Lent { samples: &a, width, height };
-    let two = Lent { samples: &b, width, height };
+/// What a plain read of a plane takes: its words, added up.
+fn read(list: &[u8]) -> u64 {
+    list.chunks_exact(8).fold(0, |s, c| s.wrapping_add(u64::from_ne_bytes(c.try_into().unwrap())))
+}
 
-    // What a plain read of the same two planes takes.
-    let read = |list: &[u8]| list.chunks_exact(8).fold(0u64, |s, c| s.wrapping_add(u64::from_ne_bytes(c.try_into().unwrap())));
-    let mut whole = || read(black_box(&a)) ^ read(black_box(&b));
-    let plain = (0..ROUNDS).map(|_| time(calls, &mut whole)).fold(f64::MAX, f64::min);
-    let rate = |ns: f64| (2 * width * height) as f64 / ns;
+/// Two planes of one size, as the crate has them and as the library is lent them.
+struct Pair {
+    size: String,
+    calls: u32,
+    bytes: f64,
+    lists: [Vec<u8>; 2],
+    frames: [Arc<Frame<u8>>; 2],
+    width: usize,
+    height: usize,
+}
 
-    assert_eq!(Scenes::door_difference(&first.y_plane, &second.y_plane) as i64, difference(&one, &two));
-    let d = best(
-        calls,
-        || Scenes::door_difference(black_box(&first.y_plane), black_box(&second.y_plane)),
-        || difference(black_box(&one), black_box(&two)),
-    );
-    let more = format!("{:.1} GB/s; a plain read {:.1} GB/s", rate(d.1), rate(plain));
-    line("plane difference", &size, d, &more);
+impl Pair {
+    fn new(width: usize, height: usize) -> Pair {
+        let lists = [samples(width * height, 1), samples(width * height, 2)];
+        let frames = [frame(&lists[0], width, height), frame(&lists[1], width, height)];
+        let calls = (10_000_000 / (width * height)).max(1) as u32;
+        let (size, bytes) = (format!("{width}×{height}"), (2 * width * height) as f64);
+        Pair { size, calls, bytes, lists, frames, width, height }
+    }
 
-    assert_eq!(estimate_importance_block_difference(&second, &first), importance(&one, &two));
-    let i = best(
-        calls,
-        || estimate_importance_block_difference(black_box(&second), black_box(&first)),
-        || importance(black_box(&one), black_box(&two)),
-    );
-    line("importance", &size, i, &format!("{:.1} GB/s", rate(i.1)));
+    fn lent(&self, at: usize) -> Lent<'_> {
+        Lent { samples: &self.lists[at], width: self.width, height: self.height }
+    }
 
-    let mut temp = first.y_plane.clone();
-    let (mut work, mut costs) = (b.clone(), vec![0; width * height / 64]);
-    let theirs = estimate_intra_costs(&mut temp, &first, 8);
-    let count = intra_costs(&one, &mut work, &mut costs) as usize;
-    assert_eq!(&theirs[..], &costs[..count]);
-    let c = best(
-        (calls / 40).max(1),
-        || estimate_intra_costs(&mut temp, black_box(&first), 8),
-        || intra_costs(black_box(&one), &mut work, &mut costs),
-    );
-    line("intra costs", &size, c, &format!("{:.0} ns a block", c.1 / count as f64));
+    fn difference(&self) {
+        let ([first, second], one, two) = (&self.frames, self.lent(0), self.lent(1));
+        assert_eq!(Scenes::door_difference(&first.y_plane, &second.y_plane) as i64, difference(&one, &two));
+        let [theirs, ours, plain] = best(
+            self.calls,
+            [
+                &mut || seen(Scenes::door_difference(black_box(&first.y_plane), black_box(&second.y_plane))),
+                &mut || seen(difference(black_box(&one), black_box(&two))),
+                &mut || seen(read(black_box(&self.lists[0])) ^ read(black_box(&self.lists[1]))),
+            ],
+        );
+        let (rate, most) = (self.bytes / ours, self.bytes / plain);
+        let more = format!("{rate:.1} GB/s; a plain read {most:.1} GB/s; {:.2} of it", rate / most);
+        line("plane difference", &self.size, theirs, ours, &more);
+    }
+
+    fn importance(&self) {
+        let ([first, second], one, two) = (&self.frames, self.lent(0), self.lent(1));
+        assert_eq!(estimate_importance_block_difference(second, first), importance(&one, &two));
+        let [theirs, ours] = best(
+            self.calls,
+            [
+                &mut || seen(estimate_importance_block_difference(black_box(second), black_box(first))),
+                &mut || seen(importance(black_box(&one), black_box(&two))),
+            ],
+        );
+        line("importance", &self.size, theirs, ours, &format!("{:.1} GB/s", self.bytes / ours));
+    }
+
+    fn intra(&self) {
+        let (first, one) = (&self.frames[0], self.lent(0));
+        let mut temp = first.y_plane.clone();
+        let (mut work, mut costs) = (self.lists[1].clone(), vec![0; self.width * self.height / 64]);
+        let due = estimate_intra_costs(&mut temp, first, 8);
+        let count = intra_costs(&one, &mut work, &mut costs) as usize;
+        assert_eq!(&due[..], &costs[..count]);
+        let [theirs, ours] = best(
+            (self.calls / 40).max(1),
+            [
+                &mut || seen(estimate_intra_costs(black_box(&mut temp), black_box(first), 8)),
+                &mut || seen(intra_costs(black_box(&one), black_box(&mut work), black_box(&mut costs))),
+            ],
+        );
+        line("intra costs", &self.size, theirs, ours, &format!("{:.0} ns a block", ours / count as f64));
+    }
 }
 
 fn transform() {
@@ -104,18 +144,20 @@ fn transform() {
     Scenes::door_hadamard(&mut a);
     hadamard8x8(&mut b);
     assert_eq!(a, b);
-    let t = best(
+    let [theirs, ours] = best(
         100_000,
-        || {
-            a.copy_from_slice(black_box(&source));
-            Scenes::door_hadamard(black_box(&mut a));
-        },
-        || {
-            b.copy_from_slice(black_box(&source));
-            hadamard8x8(black_box(&mut b));
-        },
+        [
+            &mut || {
+                a.copy_from_slice(black_box(&source));
+                Scenes::door_hadamard(black_box(&mut a));
+            },
+            &mut || {
+                b.copy_from_slice(black_box(&source));
+                hadamard8x8(black_box(&mut b));
+            },
+        ],
     );
-    line("transform", "8×8", t, &format!("{:.0} and {:.0} ns, with the copy of its input", t.0, t.1));
+    line("transform", "8×8", theirs, ours, "with the copy of its input");
 }
 
 /// A film in Standard mode, lookahead 5, sets of 7, over and over.
@@ -130,10 +172,10 @@ fn step() {
     let theirs = || {
         let chroma = ChromaSubsampling::Monochrome;
         let speed = fed::SceneDetectionSpeed::Standard;
-        let mut d = Fedded::new((64, 64), 8, Rational32(1, 600), chroma, 5, speed, 0, 1000);
+        let mut d = Given::new((64, 64), 8, Rational32(1, 600), chroma, 5, speed, 0, 1000);
         let (mut previous, mut cuts) = (0, 0);
         for n in 1..=CALLS {
-            let set: [&Arc<Frame<u8>>; 7] = std::array::from_fn(|k| &frames[n - 1 + k]);
+            let set: [&Arc<Frame<u8>>; 7] = std::array::from_fn(|k| &black_box(&frames)[n - 1 + k]);
             if d.analyze_next_frame(&set, n, previous).0 {
                 previous = n;
                 cuts += 1;
@@ -145,7 +187,7 @@ fn step() {
         let mut d = Detector::fresh(64, 64, 5, 2, 0, 1000);
         let (mut previous, mut cuts) = (0, 0);
         for n in 1..=CALLS {
-            let part = |list: usize| &lists[list][n..n + 6];
+            let part = |list: usize| &black_box(&lists)[list][n..n + 6];
             if d.step(7, n as u64, previous, part(0), part(1), part(2)) & 1 == 1 {
                 previous = n as u64;
                 cuts += 1;
@@ -154,16 +196,19 @@ fn step() {
         cuts
     };
     assert_eq!(theirs(), ours());
-    let (a, b) = best(1, theirs, ours);
-    let s = (a / CALLS as f64, b / CALLS as f64);
-    line("step", "Standard, L 7", s, &format!("{:.0} and {:.0} ns", s.0, s.1));
+    let film = best(1, [&mut || seen(theirs()), &mut || seen(ours())]);
+    let [theirs, ours] = film.map(|whole| whole / CALLS as f64);
+    line("step", "Standard, L 7", theirs, ours, "");
 }
 
 fn main() {
     println!("| Part | Input | The crate, µs | The library, µs | Ratio | |");
     println!("|---|---|---|---|---|---|");
     for (width, height) in [(240, 180), (640, 480), (1920, 1080)] {
-        planes(width, height);
+        let pair = Pair::new(width, height);
+        pair.difference();
+        pair.importance();
+        pair.intra();
     }
     transform();
     step();

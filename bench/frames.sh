@@ -2,6 +2,7 @@
 # The stack frame of each function of the archive, from the compiled code: pushed registers and what is taken from the
 # stack pointer, in bytes, without what it calls.   frames.sh ARCHIVE
 set -eu
+[ -f "$1" ] || { echo "frames: no archive $1" >&2; exit 2; }
 dump=objdump
 [ "$(uname -m)" = x86_64 ] || dump=x86_64-linux-gnu-objdump
 $dump -d "$1" | awk '

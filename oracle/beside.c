@@ -27,6 +27,7 @@ static void take(void *to, size_t size)
 enum kind next_record(void)
 {
     uint64_t head[2];
+    if (cursor != limit) stop("a record is too long");
     take(head, sizeof head);
     if (head[1] > room) {
         room = head[1] + 1024;
@@ -231,8 +232,10 @@ int main(void)
         default: stop("an unknown kind of record");
         }
     if (word() != record - 1) stop("the number of records is not the one announced");
-    printf("compared: %" PRIu64 " detector calls with %" PRIu64 " cuts, %" PRIu64 " whole films of %" PRIu64 " frames, %" PRIu64
-           " refusals\n", calls, cuts, films, film_frames, refusals);
+    printf("compared: %" PRIu64 " detector calls, %" PRIu64 " with a score, and %" PRIu64 " cuts, %" PRIu64 " by the decision rule\n",
+           calls, scored, cuts, ruled);
+    printf("compared: %" PRIu64 " fresh detectors, %" PRIu64 " whole films of %" PRIu64 " frames, %" PRIu64 " refusals\n", fresh, films,
+           film_frames, refusals);
     printf("compared:");
     for (int i = 0; i < MEASURES; i++) printf("%s %s %" PRIu64, i == 0 ? "" : ",", measures[i], measured[i]);
     printf("\n");

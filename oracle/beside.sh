@@ -14,6 +14,8 @@ add() {
     *" passed, "*" failed") ;;
     *) echo "beside: the comparison did not end"; last="0 passed, 1 failed" ;;
     esac
+    # A part that compared nothing shows nothing.
+    case $last in "0 passed, 0 failed") echo "beside: nothing was compared"; last="0 passed, 1 failed" ;; esac
     passed=$((passed + ${last%% passed*}))
     last=${last#* passed, }
     failed=$((failed + ${last% failed}))

@@ -5,9 +5,9 @@
 #include <stdlib.h>
 #include <string.h>
 
-enum { NUMBERS_LEN = 13, SCORES_LEN = 80, OFFSET = 7, COUNT = 12, ENTRY = 5 };
+enum { NUMBERS_LEN = 13, SCORES_LEN = 80, MAX = 6, OFFSET = 7, ENTRY = 5 };
 
-uint64_t calls, cuts, films, film_frames;
+uint64_t calls, scored, cuts, ruled, fresh, films, film_frames;
 /* The state as it should be: what the port has written so far, as the crate says. */
 static uint64_t numbers[NUMBERS_LEN];
 static double scores[SCORES_LEN];
@@ -46,6 +46,7 @@ void detector_fresh(void)
     int64_t got = brine_detector_fresh(n[0], n[1], (uint32_t)n[2], n[3], (uint32_t)n[4], n[5], n[6], lent, numbers_len, places,
                                        scores_len);
     if (due == 0) memcpy(numbers, after, sizeof numbers);
+    fresh += due == 0;
     verdict(due == got && holds(NUMBERS, due == 0 ? numbers : wide_numbers) && holds(SCORES, wide_scores), "fresh detector",
             due, got);
 }
@@ -96,7 +97,9 @@ void detector_step(void)
         memcpy(numbers, after, sizeof numbers);
         memcpy(scores, entries, len * sizeof *scores);
         calls++;
+        scored += due >= 2;
         cuts += (uint64_t)due & 1;
+        ruled += due == 3 && frame - previous < numbers[MAX];
     }
     verdict(ok, "step", due, got);
 }
@@ -140,7 +143,8 @@ static int film_call(struct frame *f, size_t count, size_t n, size_t ahead, uint
                      const double *score)
 {
     double inter[16], importance[16], threshold[16];
-    size_t set = count - (n - 1) < ahead + 2 ? count - (n - 1) : ahead + 2;
+    /* The crate's driver has no largest set; a set of more than 16 frames is refused here. */
+    size_t most = ahead + 2 < 16 ? ahead + 2 : 16, left = count - (n - 1), set = left < most ? left : most;
     for (size_t k = 0; k + 1 < set; k++) {
         inter[k] = f[n + k].inter;
         importance[k] = f[n + k].importance;

@@ -29,5 +29,6 @@ void detector_fresh(void);
 void detector_state(void);
 void detector_step(void);
 void whole_film(void);
-extern uint64_t calls, cuts, films, film_frames;
+/* Detector calls: all, those with a score, cuts, and cuts that the decision rule found and not the largest interval. */
+extern uint64_t calls, scored, cuts, ruled, fresh, films, film_frames;
 #endif

@@ -5,7 +5,7 @@
 #include <string.h>
 #include <sys/mman.h>
 
-enum { SIZE = 1 << 20, PAGE = 1 << 16, GUARD = 64, FILL = 0xa5 };
+enum { SIZE = 1 << 25, PAGE = 1 << 16, GUARD = 64, FILL = 0xa5 };
 
 static struct {
     unsigned char *base, *at;

@@ -14,6 +14,10 @@ for name in ${MUTANTS:-$(sed -n 's/^name: //p' "$here/mutants.txt")}; do
     rule=$(awk -v name="$name" '$1 == "name:" { on = $2 == name } on && $1 == "rule:" { sub(/^rule: /, ""); print }' "$here/mutants.txt")
     MUTANT=$name "$here/build.sh" mutant "$out" >"$out.log" 2>&1 || { cat "$out.log" >&2; exit 2; }
     "$out/oracle" "$seed" "$count" 2>/dev/null | "$@" >"$out.log" 2>&1 || true
+    case $(tail -n 1 "$out.log") in
+    *" passed, "*" failed") ;;
+    *) echo "mutants: $name: the comparison did not end" >&2; exit 2 ;;
+    esac
     first=$(sed -n 's/^failed: \(.*\)/\1/p' "$out.log" | paste -sd, - | sed 's/,/, /g')
     case $first in
     "") first="nothing"; survived=$((survived + 1)); case $equivalent in *" $name "*) ;; *) wrong=$((wrong + 1)) ;; esac ;;

@@ -2,6 +2,8 @@
 use std::cell::Cell;
 use std::panic::{AssertUnwindSafe, catch_unwind, set_hook, take_hook};
 
+use crate::tally::Ran;
+
 thread_local!(static EXPECTED: Cell<bool> = const { Cell::new(false) });
 
 pub fn prepare() {
@@ -11,6 +13,11 @@ pub fn prepare() {
             usual(p);
         }
     }));
+}
+
+/// Whether code of the crate stops.
+pub fn ran<R>(f: impl FnOnce() -> R) -> Ran {
+    if attempt(f).is_some() { Ran::Through } else { Ran::Stopped }
 }
 
 pub fn attempt<R>(f: impl FnOnce() -> R) -> Option<R> {

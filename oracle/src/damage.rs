@@ -30,7 +30,7 @@ fn odd_lengths(r: &mut Random) -> (u64, u64) {
 /// One wrong thing in a state.
 fn state(r: &mut Random, s: &mut State) {
     let count = s.numbers[COUNT];
-    match r.below(8) {
+    match r.below(9) {
         0 => s.numbers[0] = r.of(&[0, 8193, u64::MAX, (1 << 32) + 16]),
         1 => s.numbers[1] = r.of(&[0, 8193, u64::MAX, (1 << 32) + 16]),
         2 => s.numbers[2] = r.of(&[0, 7, 10, (1 << 32) + 8, u64::MAX]),
@@ -41,10 +41,19 @@ fn state(r: &mut Random, s: &mut State) {
             s.numbers[COUNT] = r.of(&[16, 16, 17, 11, 11, 15, count.wrapping_add(1 << 32), u64::MAX, 0]);
             s.places.chunks_mut(5).for_each(|e| e[0] = 1.0);
         }
+        6 => s.numbers[LAST] = r.of(&[u64::MAX, 1 << 32, (1 << 32) - 1]),
         _ => {
             let at = r.below(count.clamp(1, 16)) as usize;
             s.places[at * 5] = bad_inter(r);
         }
+    }
+}
+
+/// A set of so many frames, its lists as long as they should be.
+fn resize(c: &mut Call, set: u64) {
+    c.set = set;
+    for list in [&mut c.inter, &mut c.importance, &mut c.threshold] {
+        list.resize(set as usize - 1, 1.0);
     }
 }
 
@@ -56,13 +65,8 @@ fn call(r: &mut Random, s: &State, c: &mut Call) {
         1 => c.previous = r.of(&[n.wrapping_add(1), u64::MAX, 1 << 40]),
         2 => c.set = r.of(&[17, u64::MAX, 1 << 32, 1 << 63, c.set.wrapping_add(1 << 32)]),
         3 => {
-            // A longer set, its lists as long as they should be.
             let free = s.numbers[LAST] == 0 || s.numbers[LENGTH] > 16;
-            let longer = if free { 17 } else { s.numbers[LENGTH] + 1 };
-            c.set = longer;
-            for list in [&mut c.inter, &mut c.importance, &mut c.threshold] {
-                list.resize(longer as usize - 1, 1.0);
-            }
+            resize(c, if free { 17 } else { s.numbers[LENGTH] + 1 });
         }
         4 => {
             let list = r.below(3);
@@ -86,16 +90,12 @@ fn call(r: &mut Random, s: &State, c: &mut Call) {
                 *x = bad_other(r);
             }
         }
-        _ => {
-            c.set = 1;
-            for list in [&mut c.inter, &mut c.importance, &mut c.threshold] {
-                list.clear();
-            }
-        }
+        _ => resize(c, 1),
     }
 }
 
-/// A call like the one given, damaged in one or more ways, if the reading refuses it.
+/// A call like the one given, changed in one or more ways. Where no change makes it a call that is refused, the reading
+/// says what is due: a library that refuses too much is found by these.
 pub fn step(desk: &mut Desk, r: &mut Random, s: &State, c: &Call) {
     let (mut hurt, mut c, mut lengths) = (s.clone(), c.clone(), LENGTHS);
     for _ in 0..r.of(&[1, 1, 1, 2, 3]) {
@@ -106,13 +106,21 @@ pub fn step(desk: &mut Desk, r: &mut Random, s: &State, c: &Call) {
             _ => call(r, s, &mut c),
         }
     }
-    let fault = reading::step_fault(lengths, &hurt, &c);
-    if fault == 0 {
-        return;
-    }
     put_state(desk, &hurt);
-    refused(desk, lengths, &hurt, &c, fault);
+    match reading::step_fault(lengths, &hurt, &c) {
+        0 => read(desk, &hurt, &c),
+        fault => refused(desk, lengths, &hurt, &c, fault),
+    }
     put_state(desk, s);
+}
+
+/// Writes an accepted call that belongs to no film: the reading alone answers.
+fn read(desk: &mut Desk, s: &State, c: &Call) {
+    let (answer, after) = reading::step(s, c);
+    let given = (answer >= 2).then(|| after.entries()[after.offset() as usize]);
+    desk.tally.read_calls += 1;
+    desk.tally.cuts += (answer & 1) as u64;
+    put_call(desk, LENGTHS, c, answer, &after, given);
 }
 
 /// Writes a refused call, and gives it to the crate.

@@ -17,7 +17,9 @@ pub fn write(seed: &str, folder: &str) -> io::Result<()> {
     writeln!(y4m, "YUV4MPEG2 W{width} H{height} F1:600 Ip A1:1 Cmono")?;
     for f in &frames {
         y4m.write_all(b"FRAME\n")?;
-        y4m.write_all(&f.y_plane.samples)?;
+        for row in f.y_plane.rows() {
+            y4m.write_all(row)?;
+        }
     }
     let costs: Vec<String> = frames.iter().skip(1).map(|f| format!("{:e}\n", f.fed.inter)).collect();
     fs::write(format!("{folder}/film.inter"), costs.concat())?;

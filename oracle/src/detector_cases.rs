@@ -1,8 +1,9 @@
 //! Films from a fresh detector and from any state that refusal 11 lets in, with damaged calls between.
+use crate::attempt::ran;
 use crate::damage;
 use crate::random::Random;
-use crate::reading::{self, COUNT, Call, LAST, LENGTH, NONE, NUMBERS, SCORES, Score, State};
-use crate::run::{Detector, Film, detector, possible};
+use crate::reading::{self, COUNT, Call, LAST, LENGTH, NONE, NUMBERS, SCORES, STANDARD, Score, State};
+use crate::run::{Detector, Film, LOOKAHEAD_MOST, detector, possible};
 use crate::stream::{Kind, Stream};
 use crate::tally::{Ran, Tally};
 use crate::values::{Taste, any_real, same};
@@ -20,7 +21,7 @@ fn settings(r: &mut Random) -> [u64; 7] {
     let sides = [1, 2, 8, 16, 240, 241, 480, 481, 1080, 1600, 1601, 8192];
     let (width, height) = if r.once_in(2) { (r.of(&sides[..5]), r.of(&sides)) } else { (r.of(&sides), r.of(&sides[5..])) };
     let lookahead = match r.below(20) {
-        0 => r.of(&[u64::MAX, 1 << 32, 1 << 20]),
+        0 => r.of(&[u64::MAX, 1 << 32, LOOKAHEAD_MOST + 1, LOOKAHEAD_MOST]),
         1..=9 => r.from_to(4, 6),
         _ => r.below(17),
     };
@@ -30,7 +31,7 @@ fn settings(r: &mut Random) -> [u64; 7] {
         _ => r.below(14),
     };
     let (min, max) = (bound(r), bound(r));
-    let max = if r.once_in(2) { u64::MAX } else { max };
+    let max = if r.once_in(4) { max } else { u64::MAX };
     [width, height, 8, lookahead, mode, min, max]
 }
 
@@ -50,7 +51,8 @@ fn fresh(desk: &mut Desk, n: &[u64; 7], lengths: (u64, u64), before: &State) -> 
             }
         }
     } else {
-        desk.tally.refusal(fault, Ran::NotAsked);
+        let known = fault != 11 && n[4] <= STANDARD && n[3] <= LOOKAHEAD_MOST;
+        desk.tally.refusal(fault, if known { ran(|| detector(n)) } else { Ran::NotAsked });
     }
     desk.out.words(n).word(lengths.0).word(lengths.1).answer(-i64::from(fault)).words(&s.numbers);
     desk.out.end(Kind::Fresh);
@@ -131,6 +133,10 @@ fn film(desk: &mut Desk, r: &mut Random, mut s: State, first: u64, calls: u64) {
         s = after;
         if answer & 1 == 1 || r.once_in(30) {
             previous = n;
+        }
+        // From here on nothing but the numbers changes: rule 2 answers every further call.
+        if set <= s.ahead() && r.once_in(2) {
+            return;
         }
         if r.once_in(if n > first + calls / 2 { 3 } else { 12 }) {
             set = set.saturating_sub(r.of(&[1, 1, 1, 2, 5]));

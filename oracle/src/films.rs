@@ -31,15 +31,16 @@ pub fn detector(n: &[u64; 7]) -> Scenes {
 
 /// Scenes of some frames each, which drift a little, with a flash here and there.
 fn planes(r: &mut Random, width: usize, height: usize, frames: u64) -> Vec<Plane<u8>> {
-    let shape = PlaneGeometry { width, height, stride: width, origin: 0 };
     let (mut base, mut spread) = (r.below(200), 1 + r.below(56));
     let list = (0..frames).map(|_| {
         if r.once_in(7) {
             (base, spread) = (r.below(200), 1 + r.below(56));
         }
         let light = if r.once_in(9) { 255 } else { base };
-        let samples = (0..width * height).map(|_| (light + r.below(spread)).min(255) as u8).collect();
-        Plane::over(samples, shape)
+        let (stride, origin) = (width + r.of(&[0, 0, 1, 8, 61]) as usize, r.of(&[0, 0, 1, 64]) as usize);
+        let size = origin + (height - 1) * stride + width + r.below(3) as usize;
+        let samples = (0..size).map(|_| (light + r.below(spread)).min(255) as u8).collect();
+        Plane::over(samples, PlaneGeometry { width, height, stride, origin })
     });
     list.collect()
 }
@@ -53,13 +54,13 @@ pub struct Film {
 impl Film {
     pub fn draw(r: &mut Random) -> Film {
         let mode = r.of(&[0, 1, 1, 2, 2]);
-        let large = mode == 1 && r.once_in(12);
+        let large = mode == 1 && r.once_in(3);
         let (width, height) = if large { (r.of(&[242, 250]), 241) } else { (r.from_to(1, 40), r.from_to(1, 40)) };
         let count = if large { r.from_to(2, 12) } else { r.from_to(1, 60) };
-        let ahead = if r.once_in(2) { r.from_to(4, 6) } else { r.from_to(1, 14) };
+        let ahead = if r.once_in(2) { r.from_to(4, 6) } else { r.from_to(1, 17) };
         let (min, max) = (r.below(4), if r.once_in(2) { 4 + r.below(20) } else { u64::from(u32::MAX) });
         let planes = planes(r, width as usize, height as usize, count);
-        let feed = |r: &mut Random| Fed { inter: (r.part() * 400.0).powi(2) / 100.0, ..Fed::default() };
+        let feed = |r: &mut Random| Fed { inter: r.part() * r.part() * 1600.0, ..Fed::default() };
         let frames = planes.into_iter().map(|p| Frame::of(p, feed(r))).collect();
         Film { settings: [width, height, 8, ahead, mode, min, max], frames }
     }

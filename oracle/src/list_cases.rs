@@ -2,7 +2,7 @@
 use scenes::SceneDetectionSpeed;
 use v_frame::plane::{Plane, PlaneGeometry};
 
-use crate::attempt::attempt;
+use crate::attempt::ran;
 use crate::detector_cases::Desk;
 use crate::measures_reading as read;
 use crate::plane_cases::put_threshold;
@@ -56,10 +56,7 @@ fn runs(list: &[i32], side: usize) -> Ran {
         return Ran::NotAsked;
     }
     let mut list = list.to_vec();
-    match attempt(|| Scenes::door_hadamard(&mut list)) {
-        Some(()) => Ran::Through,
-        None => Ran::Stopped,
-    }
+    ran(|| Scenes::door_hadamard(&mut list))
 }
 
 pub fn satd(desk: &mut Desk, r: &mut Random) {
@@ -130,7 +127,9 @@ pub fn scale_of(desk: &mut Desk, width: u64, height: u64, mode: u64) {
     };
     let mut due = reading::scale_factor(width, height, mode);
     if due < 0 {
-        desk.tally.refusal(6, Ran::NotAsked);
+        let known = mode <= reading::STANDARD;
+        let asked = || ran(|| Scenes::door_scale(width as usize, height as usize, speed));
+        desk.tally.refusal(6, if known { asked() } else { Ran::NotAsked });
     } else {
         let theirs = Scenes::door_scale(width as usize, height as usize, speed) as i64;
         if theirs != due {

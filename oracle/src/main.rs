@@ -36,7 +36,7 @@ fn main() {
     let (mut out, mut tally, mut r) = (Stream::new(), Tally::default(), Random::new(seed));
     let mut desk = Desk { out: &mut out, tally: &mut tally };
     edges::all(&mut desk);
-    for _ in 0..count / 6 {
+    for _ in 0..count / 5 + 20 {
         list_cases::scale(&mut desk, &mut r);
         plane_cases::pair(&mut desk, &mut r);
         plane_cases::intra(&mut desk, &mut r);
@@ -45,7 +45,7 @@ fn main() {
         list_cases::hadamard(&mut desk, &mut r, 8);
         list_cases::satd(&mut desk, &mut r);
     }
-    for _ in 0..count / 2000 {
+    for _ in 0..count / 2000 + 1 {
         films::film(&mut desk, &mut r);
     }
     while desk.tally.calls < count {

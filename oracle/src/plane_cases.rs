@@ -7,7 +7,7 @@ use v_frame::{
     plane::{Plane, PlaneGeometry},
 };
 
-use crate::attempt::attempt;
+use crate::attempt::ran;
 use crate::detector_cases::Desk;
 use crate::measures_reading::{self as read, Lent};
 use crate::random::Random;
@@ -126,10 +126,7 @@ fn stops(fault: u32, a: &Lent, b: &Lent) -> Ran {
         return Ran::NotAsked;
     }
     let (a, b) = (plane(a), plane(b));
-    match attempt(|| Scenes::door_difference(&a, &b)) {
-        Some(_) => Ran::Through,
-        None => Ran::Stopped,
-    }
+    ran(|| Scenes::door_difference(&a, &b))
 }
 
 /// Delta comes from a Fast detector of the planes' own size, as long as it does not reduce them.
@@ -192,7 +189,10 @@ pub fn intra_of(desk: &mut Desk, depth: u64, a: &Lent, work: &Lent, room: &[u32]
         desk.tally.measures += 1;
         crate_threshold(desk, a, &theirs);
     } else {
-        desk.tally.refusal(fault, Ran::NotAsked);
+        // A depth above 8 does not fit the sample: there the crate's text is undefined, and it cannot be asked.
+        let known = fault == 5 && depth < 8 && read::intra_fault(8, a, work, room.len()) == 0;
+        let asked = || ran(|| estimate_intra_costs(&mut plane(work), &frame(a), depth as usize));
+        desk.tally.refusal(fault, if known { asked() } else { Ran::NotAsked });
     }
     desk.out.word(depth);
     put(desk.out, a);

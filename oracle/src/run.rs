@@ -39,8 +39,10 @@ pub fn detector(n: &[u64]) -> Detector {
 }
 
 /// The crate reserves room for the whole lookahead, so an enormous one ends the program.
+pub const LOOKAHEAD_MOST: u64 = 1 << 20;
+
 pub fn possible(s: &State) -> bool {
-    s.numbers[3] < 1 << 20
+    s.numbers[3] <= LOOKAHEAD_MOST
 }
 
 /// What the crate answers, its offset and entries after the call, and the score that it gives.

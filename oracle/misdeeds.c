@@ -1,0 +1,145 @@
+/* The library's functions, each with a misdeed after it: a write where none is due, or a wrong one. MISDEED names the one that is
+   done. The comparison must find each of them. Linked in front of the library by the linker's --wrap. */
+#include "brinepulley.h"
+#include <stdlib.h>
+#include <string.h>
+
+enum { SCORES_LEN = 80, MAX = 6, OFFSET = 7, FIRST_NUMBER = 10, COUNT = 12, ENTRY = 5 };
+
+static int does(const char *name)
+{
+    const char *asked = getenv("MISDEED");
+    return asked != NULL && strcmp(asked, name) == 0;
+}
+
+/* A list that is lent to be read, written to. */
+static void spoil(const void *list, size_t bytes)
+{
+    if (bytes != 0) ((unsigned char *)list)[bytes - 1] ^= 1;
+}
+
+#define PLANES                                                                                                         \
+    uint32_t depth, const uint8_t *a, size_t a_len, size_t width, size_t height, size_t stride, size_t origin,         \
+        const uint8_t *b, size_t b_len, size_t width2, size_t height2, size_t stride2, size_t origin2
+#define GIVEN depth, a, a_len, width, height, stride, origin, b, b_len, width2, height2, stride2, origin2
+
+int64_t __real_brine_plane_difference(PLANES);
+int64_t __wrap_brine_plane_difference(PLANES)
+{
+    int64_t r = __real_brine_plane_difference(GIVEN);
+    if (does("difference-writes-a-plane")) spoil(a, a_len);
+    return r;
+}
+
+int64_t __real_brine_importance_total(PLANES);
+int64_t __wrap_brine_importance_total(PLANES)
+{
+    int64_t r = __real_brine_importance_total(GIVEN);
+    if (does("total-writes-a-plane")) spoil(b, b_len);
+    return r;
+}
+
+int64_t __real_brine_delta(PLANES, double *delta);
+int64_t __wrap_brine_delta(PLANES, double *delta)
+{
+    int64_t r = __real_brine_delta(GIVEN, delta);
+    if (does("delta-when-refused") && r < 0) *delta = 0;
+    if (does("delta-behind-its-place")) delta[1] = 1;
+    return r;
+}
+
+int64_t __real_brine_importance(PLANES, double *importance);
+int64_t __wrap_brine_importance(PLANES, double *importance)
+{
+    int64_t r = __real_brine_importance(GIVEN, importance);
+    if (does("importance-when-refused") && r < 0) *importance = 0;
+    return r;
+}
+
+#define INTRA                                                                                                          \
+    uint32_t depth, const uint8_t *a, size_t a_len, size_t width, size_t height, size_t stride, size_t origin,         \
+        uint8_t *b, size_t b_len, size_t width2, size_t height2, size_t stride2, size_t origin2, uint32_t *costs,      \
+        size_t costs_len
+
+int64_t __real_brine_intra_costs(INTRA);
+int64_t __wrap_brine_intra_costs(INTRA)
+{
+    int64_t r = __real_brine_intra_costs(GIVEN, costs, costs_len);
+    if (does("work-beside-the-blocks") && r >= 0 && width2 % 8 != 0) b[origin2 + width2 / 8 * 8] ^= 1;
+    if (does("work-before-the-origin") && r >= 0 && origin2 != 0) b[origin2 - 1] ^= 1;
+    if (does("work-when-refused") && r < 0) spoil(b, b_len);
+    if (does("costs-past-the-blocks") && r >= 0 && (size_t)r < costs_len) costs[r] ^= 1;
+    if (does("costs-when-refused") && r < 0) spoil(costs, costs_len * sizeof *costs);
+    return r;
+}
+
+int64_t __real_brine_threshold(const uint32_t *costs, size_t costs_len, size_t count, double *threshold);
+int64_t __wrap_brine_threshold(const uint32_t *costs, size_t costs_len, size_t count, double *threshold)
+{
+    int64_t r = __real_brine_threshold(costs, costs_len, count, threshold);
+    if (does("threshold-when-refused") && r < 0) *threshold = 1;
+    if (does("threshold-writes-costs")) spoil(costs, costs_len * sizeof *costs);
+    return r;
+}
+
+int64_t __real_brine_hadamard4x4(int32_t *list, size_t len);
+int64_t __wrap_brine_hadamard4x4(int32_t *list, size_t len)
+{
+    int64_t r = __real_brine_hadamard4x4(list, len);
+    if (does("transform-4x4-when-refused") && r < 0) spoil(list, len * sizeof *list);
+    return r;
+}
+
+int64_t __real_brine_hadamard8x8(int32_t *list, size_t len);
+int64_t __wrap_brine_hadamard8x8(int32_t *list, size_t len)
+{
+    int64_t r = __real_brine_hadamard8x8(list, len);
+    if (does("transform-8x8-when-refused") && r < 0) spoil(list, len * sizeof *list);
+    if (does("transform-before-its-list")) list[-1] = 0;
+    return r;
+}
+
+int64_t __real_brine_satd8x8(const uint8_t *a, size_t a_len, const uint8_t *b, size_t b_len);
+int64_t __wrap_brine_satd8x8(const uint8_t *a, size_t a_len, const uint8_t *b, size_t b_len)
+{
+    int64_t r = __real_brine_satd8x8(a, a_len, b, b_len);
+    if (does("satd-writes-a-block")) spoil(b, b_len);
+    return r;
+}
+
+#define FRESH                                                                                                          \
+    size_t width, size_t height, uint32_t depth, size_t lookahead, uint32_t mode, uint64_t min, uint64_t max,          \
+        uint64_t *numbers, size_t numbers_len, double *scores, size_t scores_len
+
+int64_t __real_brine_detector_fresh(FRESH);
+int64_t __wrap_brine_detector_fresh(FRESH)
+{
+    int64_t r = __real_brine_detector_fresh(width, height, depth, lookahead, mode, min, max, numbers, numbers_len, scores, scores_len);
+    if (does("fresh-writes-a-score") && r >= 0) scores[SCORES_LEN - 1] = 42;
+    if (does("fresh-when-refused") && r < 0) spoil(numbers, numbers_len * sizeof *numbers);
+    return r;
+}
+
+#define STEP                                                                                                           \
+    uint64_t *numbers, size_t numbers_len, double *scores, size_t scores_len, size_t set, uint64_t frame,              \
+        uint64_t previous, const double *inter, size_t inter_len, const double *importance, size_t importance_len,     \
+        const double *threshold, size_t threshold_len
+
+int64_t __real_brine_detector_step(STEP);
+int64_t __wrap_brine_detector_step(STEP)
+{
+    int64_t r = __real_brine_detector_step(numbers, numbers_len, scores, scores_len, set, frame, previous, inter, inter_len,
+                                           importance, importance_len, threshold, threshold_len);
+    if (does("step-past-all-entries") && r >= 0) scores[SCORES_LEN - 1] = 42;
+    if (does("step-past-the-count") && r >= 0 && numbers[COUNT] < SCORES_LEN / ENTRY) scores[ENTRY * numbers[COUNT]] = 7.125;
+    if (does("step-changes-a-setting") && r >= 0) numbers[MAX] ^= 1;
+    if (does("step-changes-the-first-number") && r >= 0) numbers[FIRST_NUMBER] ^= 1;
+    if (does("step-changes-the-last-entry") && r >= 0 && numbers[COUNT] != 0) scores[ENTRY * (numbers[COUNT] - 1) + 2] = 1e9;
+    if (does("step-changes-the-score") && r >= 2) scores[ENTRY * numbers[OFFSET] + 4] *= -1;
+    if (does("scores-when-refused") && r < 0) spoil(scores, scores_len * sizeof *scores);
+    if (does("numbers-when-refused") && r < 0) spoil(numbers, numbers_len * sizeof *numbers);
+    if (does("step-writes-inter")) spoil(inter, inter_len * sizeof *inter);
+    if (does("step-writes-importance")) spoil(importance, importance_len * sizeof *importance);
+    if (does("step-writes-threshold")) spoil(threshold, threshold_len * sizeof *threshold);
+    return r;
+}
