@@ -12,7 +12,7 @@ use Rattle.hadamard.proofs.Halves.{output-most}
 use Rattle.hadamard.proofs.Places.{stores-ext}
 
 -- ---- four numbers by their places
-placed-four : (g : ℕ → ℤ) (k : ℕ) → k < 4 → placed (fourOf g) k ≡ g k
+pub placed-four : (g : ℕ → ℤ) (k : ℕ) → k < 4 → placed (fourOf g) k ≡ g k
 placed-four g zero h = refl
 placed-four g (suc zero) h = refl
 placed-four g (suc (suc zero)) h = refl

@@ -5,13 +5,17 @@ use Prim.Native.Nat.{ℕ, zero, suc, _+_, _*_, _≤_, _<_}
 use lib.IntN.{ℤ, pos, _+ℤ_, _-ℤ_, natAbs}
 use lib.ListN.{length, getD, set}
 use Rattle.answer.specs.Refusal.{refusal}
+use Rattle.sums.specs.Table.{table}
 use Rattle.hadamard.specs.Transform.{output, entryMost, beyondMost}
 use Rattle.hadamard.specs.declared.Two.{Two}
 use Rattle.hadamard.specs.declared.Four.{Four}
 
--- the largest numbers on the way: of a line of four before its transform, which may be the third that its entries go through, and after it
+-- the largest numbers on the way: of a line of four before its transform, which may be the third that its entries go through, of its pairs, and after it
 abbrev pub lineMost : ℕ
 lineMost = 16 * entryMost
+
+abbrev pub pairMost : ℕ
+pairMost = 2 * lineMost
 
 abbrev pub outMost : ℕ
 outMost = 4 * lineMost
@@ -31,6 +35,20 @@ placed x j = getD (x .x0 ∷ x .x1 ∷ x .x2 ∷ x .x3 ∷ []) j (pos 0)
 -- a sum and a difference
 abbrev pub twoOf : ℤ → ℤ → Two
 twoOf a b = record { sum = a +ℤ b; difference = a -ℤ b }
+
+-- those of the neighbours from place at on; of all 32 pairs; and the outputs of row i of four from its two pairs
+abbrev pub twoAt : List ℤ → ℕ → Two
+twoAt l at = twoOf (getD l at (pos 0)) (getD l (at + 1) (pos 0))
+
+abbrev pub pairSums : List ℤ → List ℤ
+pairSums l = table 32 (λ (i : ℕ). twoAt l (2 * i) .sum)
+
+abbrev pub pairDifferences : List ℤ → List ℤ
+pairDifferences l = table 32 (λ (i : ℕ). twoAt l (2 * i) .difference)
+
+abbrev pub pairedFour : List ℤ → List ℤ → ℕ → Four
+pairedFour s d i =
+    record { x0 = twoAt s (2 * i) .sum; x1 = twoAt d (2 * i) .sum; x2 = twoAt s (2 * i) .difference; x3 = twoAt d (2 * i) .difference }
 
 -- each of four numbers is at most m in size
 pub record Small (m : ℕ) (x : Four) : Type 0 where

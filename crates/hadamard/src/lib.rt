@@ -6,7 +6,7 @@ ghost use lib.IntN.{natAbs};
 ghost use lib.ListN.{length};
 ghost use Rattle.answer.specs.Refusal.{refusal};
 ghost use Rattle.hadamard.specs.Transform.{output, entryMost, beyondMost, transformFault, afterTransform};
-ghost use Rattle.hadamard.specs.Steps.{countBeyond, twoOf, fourOf, placed, Small, reach, stores, lined, allLined, LineIn, LinesIn, lineMost, outMost};
+ghost use Rattle.hadamard.specs.Steps.{countBeyond, twoOf, twoAt, pairSums, pairDifferences, pairedFour, fourOf, placed, Small, reach, stores, lined, allLined, Within, LineIn, LinesIn, lineMost, pairMost, outMost};
 
 // The largest entry, and the least.
 const MOST: i32 = 65535;
@@ -133,14 +133,72 @@ fn columns(block: &mut [i32])
     }
 }
 
-// The transform of 16 rows of four.
-fn rows(block: &mut [i32])
+// The sum and the difference of two neighbours.
+fn neighbours(list: &[i32], at: usize) -> Two
+    requires { ⌜ at + 1 < length (now list) ⌝ }
+    requires { ⌜ Within pairMost (now list) ⌝ }
+    ensures { λ r. ⌜ r ≡ twoAt (now (list .entry)) at ⌝ }
+{
+    butterfly(list[at], list[at + 1])
+}
+
+// The sums and the differences of the 32 pairs of neighbours.
+fn pairs(block: &[i32], sums: &mut [i32], differences: &mut [i32])
+    requires { ⌜ (length (now block) ≡ 64) × (length (now sums) ≡ 32) × (length (now differences) ≡ 32) ⌝ }
+    requires { ⌜ Within lineMost (now block) ⌝ }
+    ensures { λ _. ⌜ now (sums .exit) ≡ pairSums (now (block .entry)) ⌝ }
+    ensures { λ _. ⌜ now (differences .exit) ≡ pairDifferences (now (block .entry)) ⌝ }
+{
+    for i in 0..32 {
+        let y = neighbours(block, 2 * i);
+        let sum = y.sum;
+        let difference = y.difference;
+        sums[i] = sum;
+        differences[i] = difference;
+    }
+}
+
+// The outputs of row i of four, from its pairs' sums and differences.
+fn row_outputs(sums: &[i32], differences: &[i32], i: usize) -> Four
+    requires { ⌜ (2 * i + 1 < length (now sums)) × (2 * i + 1 < length (now differences)) ⌝ }
+    requires { ⌜ Within pairMost (now sums) × Within pairMost (now differences) ⌝ }
+    ensures { λ r. ⌜ r ≡ pairedFour (now (sums .entry)) (now (differences .entry)) i ⌝ }
+{
+    let y = neighbours(sums, 2 * i);
+    let z = neighbours(differences, 2 * i);
+    Four {
+        x0: y.sum,
+        x1: z.sum,
+        x2: y.difference,
+        x3: z.difference,
+    }
+}
+
+// Puts the outputs of 16 rows of four into their places.
+fn fours(sums: &[i32], differences: &[i32], block: &mut [i32])
+    requires { ⌜ now sums ≡ pairSums (now block) ⌝ }
+    requires { ⌜ now differences ≡ pairDifferences (now block) ⌝ }
     requires { ⌜ LinesIn 4 16 4 1 lineMost (now block) ⌝ }
+    requires { ⌜ Within lineMost (now block) ⌝ }
     ensures { λ _. ⌜ now (block .exit) ≡ allLined 4 4 1 16 (now (block .entry)) ⌝ }
 {
     for i in 0..16 {
-        line4(block, i * 4, 1);
+        let y = row_outputs(sums, differences, i);
+        store(block, i * 4, 1, y);
     }
+}
+
+// The transform of 16 rows of four. All pairs come first, apart from the list: the compiler takes eight neighbours at once
+// where the sums lie side by side, and the differences do.
+fn rows(block: &mut [i32])
+    requires { ⌜ length (now block) ≡ 64 ⌝ }
+    requires { ⌜ LinesIn 4 16 4 1 lineMost (now block) ⌝ }
+    ensures { λ _. ⌜ now (block .exit) ≡ allLined 4 4 1 16 (now (block .entry)) ⌝ }
+{
+    let mut sums = [0i32; 32];
+    let mut differences = [0i32; 32];
+    pairs(&block[..], &mut sums[..], &mut differences[..]);
+    fours(&sums[..], &differences[..], block);
 }
 
 // 1 for an entry out of range, else 0.

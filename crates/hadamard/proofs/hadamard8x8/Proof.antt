@@ -7,6 +7,7 @@ use Rattle.answer.proofs.Laws.{lent-written, lent-kept}
 use Rattle.hadamard.specs.Transform.{entryMost, transformFault, transformed}
 use Rattle.hadamard.specs.Steps.{allLined, LineIn}
 use Rattle.hadamard.proofs.Grid.{columns-in, rows-in, grid}
+use Rattle.hadamard.proofs.Places.{length-lined}
 use Rattle.hadamard.proofs.Range.{unrefused}
 use Rattle.hadamard.proofs.Square.{square-line, line-square}
 use Rattle.hadamard.proofs.hadamard8x8.Statement.{statement}
@@ -43,7 +44,8 @@ rows-requires : tie.Need-rows-requires
 rows-requires c κs =
     let d = c .before .before in
     let e = d .before .before in
-    rw (d .columns .ensures) (rows-in 16 1 (omega arith) entryMost (start e .args .block .now) (line e))
+    let l = start e .args .block .now in
+    rw (d .columns .ensures) (length-lined 16 1 4 4 l ∙ unrefused 8 l (free e) .0, rows-in 16 1 (omega arith) entryMost l (line e))
 
 same-length-2 : tie.Need-same-length-2
 same-length-2 c = search needs

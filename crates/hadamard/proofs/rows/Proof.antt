@@ -1,69 +1,49 @@
--- `hadamard::rows` meets its contract. The loop's invariant: the lines passed are transformed; those to come are as they were, since no
--- two lines share a place. Assumes nothing.
-use mathlib.Core.Path.{_≡_, ap, _∙_}
-use Prim.Native.Nat.{ℕ, _*_, _-_, _≤_}
-use native.Mathlib.Omega.{arith}
+-- `hadamard::rows` meets its contract: the pairs come from the list as it is, and the rows' outputs from the pairs. Assumes nothing.
+use mathlib.Core.Path.{refl}
 use borrow.Author.Needs.{needs}
-use lib.ListN.{length}
-use Rattle.hadamard.specs.Steps.{lined, allLined, lineMost}
-use Rattle.hadamard.proofs.Places.{none-lined, more-lined, length-lined, next-line}
+use Rattle.hadamard.specs.Steps.{lineMost}
+use Rattle.hadamard.proofs.PairLaws.{rows-within}
 use Rattle.hadamard.proofs.rows.Statement.{statement}
 use Rattle.hadamard.proofs.rows.Tie as tie
 
-abbrev Inv-loop : tie.InvT-loop
-Inv-loop block₀ i₀ block i = (i ≤ 16) × (block ≡ allLined 4 4 1 i block₀)
+slice-aggregate-pairs : tie.Need-slice-aggregate-pairs
+slice-aggregate-pairs c = search needs
 
-abbrev μ-loop : tie.MeasureT-loop
-μ-loop block₀ i₀ block i = 16 - i
+slice-aggregate-pairs-2 : tie.Need-slice-aggregate-pairs-2
+slice-aggregate-pairs-2 c = search needs
 
-loop-holds : tie.Need-loop-holds Inv-loop μ-loop
-loop-holds c = let s = c .args in (search needs, none-lined 4 4 1 (s .block .now))
+pairs-requires : tie.Need-pairs-requires
+pairs-requires c κs =
+    let s = c .before .before .before in
+    ((s .pre .0, refl, refl), rows-within lineMost (s .args .block .now) (s .pre .0) (s .pre .1))
 
-mul-line4 : tie.Need-mul-line4 Inv-loop μ-loop
-mul-line4 c =
-    let l = c .before .before in
-    let s = l .before in
-    omega (arith, s .pre .room (l .loop .i) 0 (omega arith) (omega arith), s .good .0 .0)
+slice-aggregate-fours : tie.Need-slice-aggregate-fours
+slice-aggregate-fours c = search needs
 
-line4-requires : tie.Need-line4-requires Inv-loop μ-loop
-line4-requires c κs =
-    let l = c .before .before in
-    let s = l .before in
-    rw (l .loop .inv .1) (next-line 4 4 1 16 lineMost (s .args .block .now) (s .pre) (l .loop .i) (omega arith))
+slice-aggregate-fours-2 : tie.Need-slice-aggregate-fours-2
+slice-aggregate-fours-2 c = search needs
 
-add-i : tie.Need-add-i Inv-loop μ-loop
-add-i c = search needs
+fours-requires : tie.Need-fours-requires
+fours-requires c κs =
+    let p = c .before .before .before .before .before in
+    let s = p .before .before .before .before in
+    (p .pairs .ensures .0, (p .pairs .ensures .1, (s .pre .1, rows-within lineMost (s .args .block .now) (s .pre .0) (s .pre .1))))
 
-loop-less : tie.Need-loop-less Inv-loop μ-loop
-loop-less c = search needs
+same-length : tie.Need-same-length
+same-length c = search needs
 
-loop-again : tie.Need-loop-again Inv-loop μ-loop
-loop-again c =
-    let l = c .before .before .before .before in
-    let s = l .before .args in (
-      search needs,
-      c .before .line4 .ensures ∙ ap (lined 4 (l .loop .i * 4) 1) (l .loop .inv .1) ∙ more-lined 4 4 1 (l .loop .i) (s .block .now),
-    )
-
-same-length : tie.Need-same-length Inv-loop μ-loop
-same-length c = let s = c .before .before .args in ap length (c .before .loop .inv .1) ∙ length-lined 4 4 1 (c .before .loop .i) (s .block .now)
-
-returns : tie.Need-returns Inv-loop μ-loop
-returns c =
-    let s = c .before .before .args in
-    c .before .loop .inv .1 ∙ ap (λ (m : ℕ). allLined 4 4 1 m (s .block .now)) (omega arith)
+returns : tie.Need-returns
+returns c = search needs
 
 pub rows-spec : {M : Type 1} → statement M
 rows-spec =
     tie.close
     (tie.spec
-    Inv-loop
-    μ-loop
-    loop-holds
-    mul-line4
-    line4-requires
-    add-i
-    loop-less
-    loop-again
+    slice-aggregate-pairs
+    slice-aggregate-pairs-2
+    pairs-requires
+    slice-aggregate-fours
+    slice-aggregate-fours-2
+    fours-requires
     same-length
     returns)
