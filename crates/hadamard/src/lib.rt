@@ -1,5 +1,5 @@
-// The Hadamard transform in place, of four rows of four entries and of eight rows of eight. Every step is on a line of four
-// entries: 16 entries are four columns and four rows, and 64 are four columns of 16 and 16 rows.
+// The Hadamard transform in place, of four rows of four entries and of eight rows of eight. All lines have four entries:
+// 16 entries are four columns and four rows of four, and 64 are four columns of 16 and 16 rows of four.
 ghost use mathlib.Core.Path.{_≡_};
 ghost use Prim.Native.Nat.{_+_, _*_, _<_, _^_};
 ghost use lib.IntN.{natAbs};
