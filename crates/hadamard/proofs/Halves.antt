@@ -13,17 +13,17 @@ use Rattle.hadamard.specs.Steps.{fourOf}
 use Rattle.hadamard.proofs.SignedLaws.{abs-add}
 
 -- ---- sums
-sum-ext : (n : ℕ) (f g : ℕ → ℤ) → ((j : ℕ) → j < n → f j ≡ g j) → sumZ n f ≡ sumZ n g
+pub sum-ext : (n : ℕ) (f g : ℕ → ℤ) → ((j : ℕ) → j < n → f j ≡ g j) → sumZ n f ≡ sumZ n g
 unfolding sumZ
 sum-ext zero f g e = refl
 sum-ext (suc n) f g e = rw (sum-ext n f g (λ j h. e j (omega arith)), e n (omega arith))
 
-sum-cut : (m n : ℕ) (f : ℕ → ℤ) → sumZ (m + n) f ≡ sumZ m f +ℤ sumZ n (λ (i : ℕ). f (m + i))
+pub sum-cut : (m n : ℕ) (f : ℕ → ℤ) → sumZ (m + n) f ≡ sumZ m f +ℤ sumZ n (λ (i : ℕ). f (m + i))
 unfolding sumZ
 sum-cut m zero f = rw add-zero (sym (+ℤ-idr (sumZ m f)))
 sum-cut m (suc n) f = rw add-suc (ap (λ (z : ℤ). z +ℤ f (m + n)) (sum-cut m n f) ∙ +ℤ-assoc (sumZ m f) (sumZ n (λ (i : ℕ). f (m + i))) (f (m + n)))
 
-sum-neg : (n : ℕ) (f : ℕ → ℤ) → sumZ n (λ (j : ℕ). negℤ (f j)) ≡ negℤ (sumZ n f)
+pub sum-neg : (n : ℕ) (f : ℕ → ℤ) → sumZ n (λ (j : ℕ). negℤ (f j)) ≡ negℤ (sumZ n f)
 unfolding sumZ
 sum-neg zero f = refl
 sum-neg (suc n) f = ap (λ (z : ℤ). z +ℤ negℤ (f n)) (sum-neg n f) ∙ sym (negℤ-+ℤ (sumZ n f) (f n))
@@ -33,7 +33,7 @@ unfolding output
 output-ext n f g k e = sum-ext n (λ (j : ℕ). sign k j *ℤ f j) (λ (j : ℕ). sign k j *ℤ g j) (λ j h. ap (λ (z : ℤ). sign k j *ℤ z) (e j h))
 
 -- ---- signs
-one-times : (z : ℤ) → pos 1 *ℤ z ≡ z
+pub one-times : (z : ℤ) → pos 1 *ℤ z ≡ z
 unfolding one
 one-times z = *ℤ-comm (pos 1) z ∙ *ℤ-one z
 
@@ -41,7 +41,7 @@ minus-times : (z : ℤ) → negsuc 0 *ℤ z ≡ negℤ z
 unfolding one
 minus-times z = *ℤ-comm (negsuc 0) z ∙ *ℤ-negsuc z 0 ∙ ap negℤ (*ℤ-one z)
 
-neg-times : (a b : ℤ) → negℤ a *ℤ b ≡ negℤ (a *ℤ b)
+pub neg-times : (a b : ℤ) → negℤ a *ℤ b ≡ negℤ (a *ℤ b)
 neg-times (pos zero) b = rw zero-*ℤ
 neg-times (pos (suc m)) (pos n) = negsuc-*ℤ-pos m n ∙ ap negℤ (sym (pos-*ℤ-pos (suc m) n))
 neg-times (pos (suc m)) (negsuc n) = negsuc-*ℤ-negsuc m n ∙ sym (ap negℤ (pos-*ℤ-negsuc (suc m) n) ∙ negℤ-negℤ (pos (suc m * suc n)))
@@ -49,7 +49,7 @@ neg-times (negsuc m) (pos n) = pos-*ℤ-pos (suc m) n ∙ sym (ap negℤ (negsuc
 neg-times (negsuc m) (negsuc n) = pos-*ℤ-negsuc (suc m) n ∙ ap negℤ (sym (negsuc-*ℤ-negsuc m n))
 
 -- the common ones of two numbers, of which a and b are the digits above the lowest p
-common : (p a b k j x y : ℕ) → k < 2 ^ p → j < 2 ^ p → x ≡ a * 2 ^ p + k → y ≡ b * 2 ^ p + j → ones (bitAnd x y) ≡ ones (bitAnd a b) + ones (bitAnd k j)
+pub common : (p a b k j x y : ℕ) → k < 2 ^ p → j < 2 ^ p → x ≡ a * 2 ^ p + k → y ≡ b * 2 ^ p + j → ones (bitAnd x y) ≡ ones (bitAnd a b) + ones (bitAnd k j)
 common p a b k j x y k< j< d e =
     ap (λ (x : ℕ). ones (bitAnd x y)) d ∙ ap (λ (y : ℕ). ones (bitAnd (a * 2 ^ p + k) y)) e
     ∙ ap ones (and-block p a b k j k< j<) ∙ ones-cat p (bitAnd a b) (bitAnd k j) (and-lt p k j k< j<)
@@ -58,7 +58,7 @@ alone : (ones (bitAnd 0 1) ≡ 0) × (ones (bitAnd 1 0) ≡ 0) × (ones (bitAnd 
 unfolding ones onesIn
 alone = (refl, refl, refl)
 
-minus-power : (n : ℕ) → pow (negsuc 0) (suc n) ≡ negℤ (pow (negsuc 0) n)
+pub minus-power : (n : ℕ) → pow (negsuc 0) (suc n) ≡ negℤ (pow (negsuc 0) n)
 minus-power n = pow-succ' (negsuc 0) n ∙ minus-times (pow (negsuc 0) n)
 
 module _ (p k j : ℕ) (k< : k < 2 ^ p) (j< : j < 2 ^ p) where

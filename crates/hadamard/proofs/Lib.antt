@@ -1,7 +1,11 @@
 pub mod SignedLaws
 pub mod Halves
+pub mod Digits
 pub mod Places
+pub mod Parts
 pub mod FourLaws
+pub mod PairLaws
+pub mod Grid
 pub mod Square
 pub mod Range
 pub mod Unique

@@ -3,31 +3,34 @@ use mathlib.Core.Path.{_≡_, refl, sym, ap, subst, _∙_}
 use mathlib.Core.Logic.{⊎-elim}
 use mathlib.Core.List.{List}
 use Prim.Native.Nat.{ℕ, zero, suc, _+_, _*_, _≤_, _<_}
-use native.Mathlib.Nat.{mul-le-mul-right, eq-or-lt-of-le, add-zero, add-suc}
+use native.Mathlib.Nat.{mul-le-mul-right, eq-or-lt-of-le}
 use native.Mathlib.Numerals.{add-one}
 use native.Mathlib.Omega.{arith}
 use lib.ListN.{length, getD, set, length-set}
 use lib.Seq.{getD-set-same, getD-set-other}
 use lib.IntN.{ℤ, pos}
 use Rattle.hadamard.specs.Transform.{output}
-use Rattle.hadamard.specs.Steps.{reach, stores, lined, allLined, Within, LineIn, LinesIn}
+use Rattle.hadamard.specs.Steps.{reach, stores, lined, allLined, LineIn, LinesIn}
 use Rattle.hadamard.proofs.Halves.{output-ext}
+
+pub at-place : (x : List ℤ) (s t : ℕ) → s ≡ t → getD x s (pos 0) ≡ getD x t (pos 0)
+at-place x s t e = ap (λ (i : ℕ). getD x i (pos 0)) e
 
 -- ---- one line
 module _ (at step : ℕ) (g : ℕ → ℤ) where
-  length-stores : (n : ℕ) (l : List ℤ) → length (stores n at step g l) ≡ length l
+  pub length-stores : (n : ℕ) (l : List ℤ) → length (stores n at step g l) ≡ length l
   unfolding stores
   length-stores zero l = refl
   length-stores (suc n) l = length-set (stores n at step g l) (at + n * step) (g n) ∙ length-stores n l
 
-  stores-other : (n : ℕ) (l : List ℤ) (t : ℕ) → ((k : ℕ) → k < n → t ≡ at + k * step → ⊥) → getD (stores n at step g l) t (pos 0) ≡ getD l t (pos 0)
+  pub stores-other : (n : ℕ) (l : List ℤ) (t : ℕ) → ((k : ℕ) → k < n → t ≡ at + k * step → ⊥) → getD (stores n at step g l) t (pos 0) ≡ getD l t (pos 0)
   unfolding stores
   stores-other zero l t h = refl
   stores-other (suc n) l t h =
       getD-set-other (stores n at step g l) (at + n * step) t (g n) (pos 0) (h n (omega arith))
       ∙ stores-other n l t (λ k k<. h k (omega arith))
 
-  stores-at : 0 < step → (n : ℕ) (l : List ℤ) (k : ℕ) → k < n → at + k * step < length l → getD (stores n at step g l) (at + k * step) (pos 0) ≡ g k
+  pub stores-at : 0 < step → (n : ℕ) (l : List ℤ) (k : ℕ) → k < n → at + k * step < length l → getD (stores n at step g l) (at + k * step) (pos 0) ≡ g k
   unfolding stores
   stores-at s zero l k k< b = absurd (omega arith)
   stores-at s (suc n) l k k< b =
@@ -44,14 +47,6 @@ module _ (at step : ℕ) (g : ℕ → ℤ) where
   unfolding stores
   stores-ext zero f l e = refl
   stores-ext (suc n) f l e = rw (stores-ext n f l (λ k h. e k (omega arith)), e n (omega arith))
-
-  -- a line cut in two
-  pub stores-cut : (m n : ℕ) (l : List ℤ) → stores (m + n) at step g l ≡ stores n (at + m * step) step (λ (k : ℕ). g (m + k)) (stores m at step g l)
-  unfolding stores
-  stores-cut m zero l = rw add-zero
-  stores-cut m (suc n) l =
-      rw add-suc (ap (λ (x : List ℤ). set x (at + (m + n) * step) (g (m + n))) (stores-cut m n l)
-      ∙ ap (λ (i : ℕ). set (stores n (at + m * step) step (λ (k : ℕ). g (m + k)) (stores m at step g l)) i (g (m + n))) (omega arith))
 
 -- ---- all lines
 module _ (n first step : ℕ) where
@@ -70,23 +65,29 @@ module _ (n first step : ℕ) where
       length-stores (m * first) step (output n (reach (allLined n first step m l) (m * first) step)) n (allLined n first step m l)
       ∙ length-lined m l
 
-  module _ (l : List ℤ) (p : LinesIn n first step l) where
+  -- a place on none of them is as it was
+  pub lined-other : (m : ℕ) (l : List ℤ) (t : ℕ) → ((a k : ℕ) → a < m → k < n → t ≡ a * first + k * step → ⊥)
+      → getD (allLined n first step m l) t (pos 0) ≡ getD l t (pos 0)
+  unfolding allLined
+  lined-other zero l t h = refl
+  lined-other (suc m) l t h =
+      stores-other (m * first) step (output n (reach (allLined n first step m l) (m * first) step)) n (allLined n first step m l) t
+      (λ k k< e. h m k (omega arith) k< e)
+      ∙ lined-other m l t (λ a k a< k<. h a k (omega arith) k<)
+
+  module _ (c q : ℕ) (l : List ℤ) (p : LinesIn n c first step q l) where
     -- the lines to come are as they were
-    lined-left : (m a k : ℕ) → m ≤ a → a < n → k < n → reach (allLined n first step m l) (a * first) step k ≡ reach l (a * first) step k
-    unfolding allLined
-    lined-left zero a k h a< k< = refl
-    lined-left (suc m) a k h a< k< =
-        stores-other (m * first) step (output n (reach (allLined n first step m l) (m * first) step)) n (allLined n first step m l) (a * first + k * step)
-        (λ i i< e. let q = p .own a m k i a< (omega arith) k< i< e in omega arith)
-        ∙ lined-left m a k (omega arith) a< k<
+    pub lined-left : (m a k : ℕ) → m ≤ a → a < c → k < n → reach (allLined n first step m l) (a * first) step k ≡ reach l (a * first) step k
+    lined-left m a k h a< k< =
+        lined-other m l (a * first + k * step) (λ b i b< i< e. let s = p .own a b k i a< (omega arith) k< i< e in omega arith)
 
     -- so that the next of them still lies in the list, with entries as small as they were
-    pub next-line : (m i : ℕ) → Within m l → i < n → LineIn n (i * first) step m (allLined n first step i l)
-    next-line m i w i< =
-        record { room = λ j j<. omega (arith, p .room i j i< j<, length-lined i l); most = λ j j<. rw (lined-left i i j (omega arith) i< j<) (w .most (i * first + j * step)) }
+    pub next-line : (i : ℕ) → i < c → LineIn n (i * first) step q (allLined n first step i l)
+    next-line i i< =
+        record { room = λ j j<. omega (arith, p .room i j i< j<, length-lined i l); most = λ j j<. rw (lined-left i i j (omega arith) i< j<) (p .most i j i< j<) }
 
     -- those done are transformed
-    pub lined-done : (m a k : ℕ) → m ≤ n → a < m → k < n → reach (allLined n first step m l) (a * first) step k ≡ output n (reach l (a * first) step) k
+    pub lined-done : (m a k : ℕ) → m ≤ c → a < m → k < n → reach (allLined n first step m l) (a * first) step k ≡ output n (reach l (a * first) step) k
     unfolding allLined
     lined-done zero a k m≤ h k< = absurd (omega arith)
     lined-done (suc m) a k m≤ h k< =
@@ -103,3 +104,7 @@ module _ (n first step : ℕ) where
         (λ i i< e. let q = p .own a m k i (omega arith) (omega arith) k< i< e in omega arith)
         ∙ lined-done m a k (omega arith) l< k<)
         (eq-or-lt-of-le (omega arith))
+
+-- of entries that are at most q in size, and so at most some larger number
+pub lines-more : (n c first step q r : ℕ) (l : List ℤ) → q ≤ r → LinesIn n c first step q l → LinesIn n c first step r l
+lines-more n c first step q r l h p = record { some = p .some; own = p .own; room = p .room; most = λ a i a< i<. omega (arith, p .most a i a< i<) }

@@ -1,11 +1,12 @@
 -- The entries out of range: some are exactly when their count is not 0. Assumes nothing.
 use mathlib.Core.Path.{_≡_, refl, ap}
-use mathlib.Core.Bool.{Bool, true, false, cond}
+use mathlib.Core.Bool.{Bool, true, false, cond, not}
 use mathlib.Core.List.{List, [], _∷_}
 use Prim.Native.Nat.{ℕ, zero, suc, _+_, _-_, _*_, _≤_, _<_}
 use native.Mathlib.Numerals.{add-one}
 use native.Mathlib.Omega.{arith}
-use borrow.Author.Tests.{lt-ltb, le-ltb, ltb-true, ltb-false, ne-eqb, eq-eqb}
+use borrow.Author.Tests.{lt-ltb, le-ltb, ltb-true, ltb-false, ne-eqb, eq-eqb, eqb-true}
+use lib.Dec.{eqb}
 use lib.IntN.{ℤ, pos, negsuc, natAbs}
 use lib.ListN.{length, getD, drop, drop-of-length-le}
 use lib.Seq.{drop-cons}
@@ -89,15 +90,25 @@ none-beyond [] w = refl
 none-beyond (z ∷ l) w = rw (le-ltb entryMost (natAbs z) (w .most 0)) (none-beyond l (record { most = λ i. w .most (suc i) }))
 
 -- ---- the refusals, and what is left
-pub wrong-length : (n : ℕ) (l : List ℤ) → (length l ≡ n * n → ⊥) → (2 ≡ transformFault n l) × (l ≡ afterTransform n l)
-unfolding _orElse_ lentAfter
-wrong-length n l h = rw (ne-eqb (length l) (n * n) h) (refl, refl)
+pub wrong-length : (n : ℕ) (l : List ℤ) → (length l ≡ n * n → ⊥) → 2 ≡ transformFault n l
+unfolding _orElse_
+wrong-length n l h = rw (ne-eqb (length l) (n * n) h)
 
 module _ (n : ℕ) (l : List ℤ) (size : length l ≡ n * n) where
-  pub too-large : someBeyond l ≡ true → (10 ≡ transformFault n l) × (l ≡ afterTransform n l)
-  unfolding _orElse_ lentAfter
-  too-large e = rw (eq-eqb (length l) (n * n) size, e) (refl, refl)
+  pub too-large : someBeyond l ≡ true → 10 ≡ transformFault n l
+  unfolding _orElse_
+  too-large e = rw (eq-eqb (length l) (n * n) size, e)
 
   pub accepted : someBeyond l ≡ false → (0 ≡ transformFault n l) × (transformed n l ≡ afterTransform n l)
   unfolding _orElse_ lentAfter
   accepted e = rw (eq-eqb (length l) (n * n) size, e) (refl, refl)
+
+-- what is known of a list that is not refused
+pub unrefused : (n : ℕ) (l : List ℤ) → transformFault n l ≡ 0 → (length l ≡ n * n) × (Within entryMost l)
+unfolding _orElse_
+unrefused n l e = by-tests (eqb (length l) (n * n)) (someBeyond l) (eqb-true (length l) (n * n)) (within l) e
+  where
+    by-tests : (s b : Bool) → (s ≡ true → length l ≡ n * n) → (b ≡ false → Within entryMost l) → refusal 2 (not s) orElse refusal 10 b ≡ 0 → (length l ≡ n * n) × (Within entryMost l)
+    by-tests true true f g e = absurd (omega arith)
+    by-tests true false f g e = (f refl, g refl)
+    by-tests false b f g e = absurd (omega arith)

@@ -1,26 +1,24 @@
 -- What the private functions leave on the way. Contracts of private functions alone cite this file; no public contract does.
 use mathlib.Core.Path.{_≡_}
-use mathlib.Core.Bool.{true, cond}
 use mathlib.Core.List.{List, [], _∷_}
 use Prim.Native.Nat.{ℕ, zero, suc, _+_, _*_, _≤_, _<_}
-use lib.Dec.{eqb}
 use lib.IntN.{ℤ, pos, _+ℤ_, _-ℤ_, natAbs}
 use lib.ListN.{length, getD, set}
 use Rattle.answer.specs.Refusal.{refusal}
+use Rattle.sums.specs.Table.{table}
 use Rattle.hadamard.specs.Transform.{output, entryMost, beyondMost}
 use Rattle.hadamard.specs.declared.Two.{Two}
 use Rattle.hadamard.specs.declared.Four.{Four}
-use Rattle.hadamard.specs.declared.Eight.{Eight}
 
--- the largest numbers on the way: of a line before its transform (a row, after the columns), of its halves' outputs, and of its own
+-- the largest numbers on the way: of a line of four before its transform, which may be the third that its entries go through, of its pairs, and after it
 abbrev pub lineMost : ℕ
-lineMost = 8 * entryMost
+lineMost = 16 * entryMost
 
-abbrev pub halfMost : ℕ
-halfMost = 4 * lineMost
+abbrev pub pairMost : ℕ
+pairMost = 2 * lineMost
 
 abbrev pub outMost : ℕ
-outMost = 2 * halfMost
+outMost = 4 * lineMost
 
 -- how many entries are out of range
 unfoldable pub countBeyond : List ℤ → ℕ
@@ -34,12 +32,23 @@ fourOf g = record { x0 = g 0; x1 = g 1; x2 = g 2; x3 = g 3 }
 abbrev pub placed : Four → ℕ → ℤ
 placed x j = getD (x .x0 ∷ x .x1 ∷ x .x2 ∷ x .x3 ∷ []) j (pos 0)
 
--- a sum and a difference, of numbers and of fours
+-- a sum and a difference
 abbrev pub twoOf : ℤ → ℤ → Two
 twoOf a b = record { sum = a +ℤ b; difference = a -ℤ b }
 
-abbrev pub mergeOf : Four → Four → Eight
-mergeOf a b = record { low = fourOf (λ (k : ℕ). placed a k +ℤ placed b k); high = fourOf (λ (k : ℕ). placed a k -ℤ placed b k) }
+-- those of the neighbours from place at on; of all 32 pairs; and the outputs of row i of four from its two pairs
+abbrev pub twoAt : List ℤ → ℕ → Two
+twoAt l at = twoOf (getD l at (pos 0)) (getD l (at + 1) (pos 0))
+
+abbrev pub pairSums : List ℤ → List ℤ
+pairSums l = table 32 (λ (i : ℕ). twoAt l (2 * i) .sum)
+
+abbrev pub pairDifferences : List ℤ → List ℤ
+pairDifferences l = table 32 (λ (i : ℕ). twoAt l (2 * i) .difference)
+
+abbrev pub pairedFour : List ℤ → List ℤ → ℕ → Four
+pairedFour s d i =
+    record { x0 = twoAt s (2 * i) .sum; x1 = twoAt d (2 * i) .sum; x2 = twoAt s (2 * i) .difference; x3 = twoAt d (2 * i) .difference }
 
 -- each of four numbers is at most m in size
 pub record Small (m : ℕ) (x : Four) : Type 0 where
@@ -66,10 +75,6 @@ unfoldable pub allLined : ℕ → ℕ → ℕ → ℕ → List ℤ → List ℤ
 allLined n first step zero l = l
 allLined n first step (suc m) l = lined n (m * first) step (allLined n first step m l)
 
--- the sizes that have a network
-abbrev pub Sized : ℕ → Type 0
-Sized n = cond (eqb n 4) true (eqb n 8) ≡ true
-
 -- every entry of l is at most m in size
 pub record Within (m : ℕ) (l : List ℤ) : Type 0 where
   pub most : (i : ℕ) → natAbs (getD l i (pos 0)) ≤ m
@@ -79,8 +84,9 @@ pub record LineIn (n at step m : ℕ) (l : List ℤ) : Type 0 where
   pub room : (j : ℕ) → j < n → at + j * step < length l
   pub most : (j : ℕ) → j < n → natAbs (reach l at step j) ≤ m
 
--- n lines lie in l, and no two share a place
-pub record LinesIn (n first step : ℕ) (l : List ℤ) : Type 0 where
+-- m lines of n entries lie in l, no two share a place, and their entries are at most q in size
+pub record LinesIn (n m first step q : ℕ) (l : List ℤ) : Type 0 where
   pub some : 0 < step
-  pub own : (a b i j : ℕ) → a < n → b < n → i < n → j < n → a * first + i * step ≡ b * first + j * step → a ≡ b
-  pub room : (a i : ℕ) → a < n → i < n → a * first + i * step < length l
+  pub own : (a b i j : ℕ) → a < m → b < m → i < n → j < n → a * first + i * step ≡ b * first + j * step → a ≡ b
+  pub room : (a i : ℕ) → a < m → i < n → a * first + i * step < length l
+  pub most : (a i : ℕ) → a < m → i < n → natAbs (reach l (a * first) step i) ≤ q

@@ -1,12 +1,12 @@
-// The Hadamard transform in place, of four rows of four entries and of eight rows of eight. A line of eight is two lines
-// of four, whose outputs are added and subtracted, so that every step is on four entries.
+// The Hadamard transform in place, of four rows of four entries and of eight rows of eight. All lines have four entries:
+// 16 entries are four columns and four rows of four, and 64 are four columns of 16 and 16 rows of four.
 ghost use mathlib.Core.Path.{_≡_};
 ghost use Prim.Native.Nat.{_+_, _*_, _<_, _^_};
 ghost use lib.IntN.{natAbs};
 ghost use lib.ListN.{length};
 ghost use Rattle.answer.specs.Refusal.{refusal};
-ghost use Rattle.hadamard.specs.Transform.{output, beyondMost, transformFault, afterTransform};
-ghost use Rattle.hadamard.specs.Steps.{countBeyond, twoOf, mergeOf, fourOf, placed, Small, reach, stores, lined, allLined, Sized, Within, LineIn, LinesIn, halfMost, lineMost, outMost};
+ghost use Rattle.hadamard.specs.Transform.{output, entryMost, beyondMost, transformFault, afterTransform};
+ghost use Rattle.hadamard.specs.Steps.{countBeyond, twoOf, twoAt, pairSums, pairDifferences, pairedFour, fourOf, placed, Small, reach, stores, lined, allLined, Within, LineIn, LinesIn, lineMost, pairMost, outMost};
 
 // The largest entry, and the least.
 const MOST: i32 = 65535;
@@ -56,39 +56,6 @@ fn network(x: Four) -> Four
     }
 }
 
-// Eight numbers as two halves.
-struct Eight {
-    low: Four,
-    high: Four,
-}
-
-// The outputs of eight numbers from those of their halves.
-fn merge(a: Four, b: Four) -> Eight
-    requires { ⌜ Small halfMost a ⌝ }
-    requires { ⌜ Small halfMost b ⌝ }
-    ensures { λ r. ⌜ r ≡ mergeOf a b ⌝ }
-    ensures { λ r. ⌜ Small outMost (r .low) × Small outMost (r .high) ⌝ }
-{
-    let p = butterfly(a.x0, b.x0);
-    let q = butterfly(a.x1, b.x1);
-    let r = butterfly(a.x2, b.x2);
-    let s = butterfly(a.x3, b.x3);
-    Eight {
-        low: Four {
-            x0: p.sum,
-            x1: q.sum,
-            x2: r.sum,
-            x3: s.sum,
-        },
-        high: Four {
-            x0: p.difference,
-            x1: q.difference,
-            x2: r.difference,
-            x3: s.difference,
-        },
-    }
-}
-
 // The four entries from place at on, a step apart.
 fn load(block: &[i32], at: usize, step: usize) -> Four
     requires { ⌜ at + 3 * step < length (now block) ⌝ }
@@ -135,42 +102,103 @@ fn line4(block: &mut [i32], at: usize, step: usize)
     store(block, at, step, y);
 }
 
-// The transform of a line of eight: the outputs of its halves, added and subtracted.
-fn line8(block: &mut [i32], at: usize, step: usize)
-    requires { ⌜ LineIn 8 at step lineMost (now block) ⌝ }
-    ensures { λ _. ⌜ now (block .exit) ≡ lined 8 at step (now (block .entry)) ⌝ }
+// The transform of four lines of four.
+fn lines(block: &mut [i32], first: usize, step: usize)
+    requires { ⌜ LinesIn 4 4 first step lineMost (now block) ⌝ }
+    ensures { λ _. ⌜ now (block .exit) ≡ allLined 4 first step 4 (now (block .entry)) ⌝ }
 {
-    let half = at + 4 * step;
-    let a = outputs(&block[..], at, step);
-    let b = outputs(&block[..], half, step);
-    let y = merge(a, b);
-    store(block, at, step, y.low);
-    store(block, half, step, y.high);
-}
-
-// The transform of a line of n entries.
-fn line(block: &mut [i32], n: usize, at: usize, step: usize)
-    requires { ⌜ Sized n ⌝ }
-    requires { ⌜ LineIn n at step lineMost (now block) ⌝ }
-    ensures { λ _. ⌜ now (block .exit) ≡ lined n at step (now (block .entry)) ⌝ }
-{
-    if n == 4 {
-        line4(block, at, step);
-    } else {
-        line8(block, at, step);
+    for i in 0..4 {
+        line4(block, i * first, step);
     }
 }
 
-// The transform of n lines, each from its first place on.
-fn lines(block: &mut [i32], n: usize, first: usize, step: usize)
-    requires { ⌜ Sized n ⌝ }
-    requires { ⌜ LinesIn n first step (now block) ⌝ }
+// The transform of the 16 entries from the first on, a step apart: four columns, and then four rows.
+fn line16(block: &mut [i32], step: usize)
+    requires { ⌜ 0 < step ⌝ }
+    requires { ⌜ LineIn 16 0 step entryMost (now block) ⌝ }
+    ensures { λ _. ⌜ now (block .exit) ≡ lined 16 0 step (now (block .entry)) ⌝ }
+{
+    lines(block, step, 4 * step);
+    lines(block, 4 * step, step);
+}
+
+// The transform of four columns of 16. Each is a part of its own, so that the places in it are the same for all four: the
+// compiler then takes the four at once.
+fn columns(block: &mut [i32])
+    requires { ⌜ LinesIn 16 4 1 4 entryMost (now block) ⌝ }
+    ensures { λ _. ⌜ now (block .exit) ≡ allLined 16 1 4 4 (now (block .entry)) ⌝ }
+{
+    for i in 0..4 {
+        line16(&mut block[i..], 4);
+    }
+}
+
+// The sum and the difference of two neighbours.
+fn neighbours(list: &[i32], at: usize) -> Two
+    requires { ⌜ at + 1 < length (now list) ⌝ }
+    requires { ⌜ Within pairMost (now list) ⌝ }
+    ensures { λ r. ⌜ r ≡ twoAt (now (list .entry)) at ⌝ }
+{
+    butterfly(list[at], list[at + 1])
+}
+
+// The sums and the differences of the 32 pairs of neighbours.
+fn pairs(block: &[i32], sums: &mut [i32], differences: &mut [i32])
+    requires { ⌜ (length (now block) ≡ 64) × (length (now sums) ≡ 32) × (length (now differences) ≡ 32) ⌝ }
     requires { ⌜ Within lineMost (now block) ⌝ }
-    ensures { λ _. ⌜ now (block .exit) ≡ allLined n first step n (now (block .entry)) ⌝ }
+    ensures { λ _. ⌜ now (sums .exit) ≡ pairSums (now (block .entry)) ⌝ }
+    ensures { λ _. ⌜ now (differences .exit) ≡ pairDifferences (now (block .entry)) ⌝ }
 {
-    for i in 0..n {
-        line(block, n, i * first, step);
+    for i in 0..32 {
+        let y = neighbours(block, 2 * i);
+        let sum = y.sum;
+        let difference = y.difference;
+        sums[i] = sum;
+        differences[i] = difference;
     }
+}
+
+// The outputs of row i of four, from its pairs' sums and differences.
+fn row_outputs(sums: &[i32], differences: &[i32], i: usize) -> Four
+    requires { ⌜ (2 * i + 1 < length (now sums)) × (2 * i + 1 < length (now differences)) ⌝ }
+    requires { ⌜ Within pairMost (now sums) × Within pairMost (now differences) ⌝ }
+    ensures { λ r. ⌜ r ≡ pairedFour (now (sums .entry)) (now (differences .entry)) i ⌝ }
+{
+    let y = neighbours(sums, 2 * i);
+    let z = neighbours(differences, 2 * i);
+    Four {
+        x0: y.sum,
+        x1: z.sum,
+        x2: y.difference,
+        x3: z.difference,
+    }
+}
+
+// Puts the outputs of 16 rows of four into their places.
+fn fours(sums: &[i32], differences: &[i32], block: &mut [i32])
+    requires { ⌜ now sums ≡ pairSums (now block) ⌝ }
+    requires { ⌜ now differences ≡ pairDifferences (now block) ⌝ }
+    requires { ⌜ LinesIn 4 16 4 1 lineMost (now block) ⌝ }
+    requires { ⌜ Within lineMost (now block) ⌝ }
+    ensures { λ _. ⌜ now (block .exit) ≡ allLined 4 4 1 16 (now (block .entry)) ⌝ }
+{
+    for i in 0..16 {
+        let y = row_outputs(sums, differences, i);
+        store(block, i * 4, 1, y);
+    }
+}
+
+// The transform of 16 rows of four. All pairs come first, apart from the list: the compiler takes eight neighbours at once
+// where the sums lie side by side, and the differences do.
+fn rows(block: &mut [i32])
+    requires { ⌜ length (now block) ≡ 64 ⌝ }
+    requires { ⌜ LinesIn 4 16 4 1 lineMost (now block) ⌝ }
+    ensures { λ _. ⌜ now (block .exit) ≡ allLined 4 4 1 16 (now (block .entry)) ⌝ }
+{
+    let mut sums = [0i32; 32];
+    let mut differences = [0i32; 32];
+    pairs(&block[..], &mut sums[..], &mut differences[..]);
+    fours(&sums[..], &differences[..], block);
 }
 
 // 1 for an entry out of range, else 0.
@@ -196,20 +224,17 @@ fn count_beyond(block: &[i32]) -> u32
     n
 }
 
-// The transform of n rows of n entries: 0, or the number of the refusal.
-fn transform(block: &mut [i32], n: usize) -> u32
-    requires { ⌜ Sized n ⌝ }
+// The refusal of a list as n rows of n entries, or 0.
+fn fault(block: &[i32], n: usize) -> u32
+    requires { ⌜ n * n < 2 ^ 32 ⌝ }
     ensures { λ r. ⌜ r ≡ transformFault n (now (block .entry)) ⌝ }
-    ensures { λ _. ⌜ now (block .exit) ≡ afterTransform n (now (block .entry)) ⌝ }
 {
     if block.len() != n * n {
         return 2;
     }
-    if count_beyond(&block[..]) != 0 {
+    if count_beyond(block) != 0 {
         return 10;
     }
-    lines(block, n, 1, n);
-    lines(block, n, n, 1);
     0
 }
 
@@ -218,7 +243,12 @@ pub fn hadamard4x4(block: &mut [i32]) -> u32
     ensures { λ r. ⌜ r ≡ transformFault 4 (now (block .entry)) ⌝ }
     ensures { λ _. ⌜ now (block .exit) ≡ afterTransform 4 (now (block .entry)) ⌝ }
 {
-    transform(block, 4)
+    let refused = fault(&block[..], 4);
+    if refused != 0 {
+        return refused;
+    }
+    line16(block, 1);
+    0
 }
 
 // The transform of 64 entries, eight rows of eight, in their place: 0, or the number of the refusal.
@@ -226,5 +256,11 @@ pub fn hadamard8x8(block: &mut [i32]) -> u32
     ensures { λ r. ⌜ r ≡ transformFault 8 (now (block .entry)) ⌝ }
     ensures { λ _. ⌜ now (block .exit) ≡ afterTransform 8 (now (block .entry)) ⌝ }
 {
-    transform(block, 8)
+    let refused = fault(&block[..], 8);
+    if refused != 0 {
+        return refused;
+    }
+    columns(block);
+    rows(block);
+    0
 }

@@ -14,24 +14,25 @@ ghost use Rattle.importance.specs.Importance.{mean, squareSum, blocksDif
 // The side of a block.
 const SIDE: usize = 8;
 
-// The sum of a part's first eight samples.
-fn sum_row(s: &[u8]) -> u32
+// The sum of a part's first eight samples. The sums of a block are kept in 16 bits, so that one vector instruction adds
+// eight of them; in 32 bits it adds four, and every sample is widened twice.
+fn sum_row(s: &[u8]) -> u16
     requires { ⌜ blockSide ≤ length (now s) ⌝ }
     ensures { λ r. ⌜ r ≡ sumBelow blockSide (λ (i : ℕ). getD (now (s .entry)) i 0) ⌝ }
 {
-    let mut sum: u32 = 0;
+    let mut sum: u16 = 0;
     for i in 0..SIDE {
-        sum += s[i] as u32;
+        sum += s[i] as u16;
     }
     sum
 }
 
 // The sum of the block that starts at a place.
-fn sum_8x8_block(s: &[u8], start: usize, stride: usize) -> u32
+fn sum_8x8_block(s: &[u8], start: usize, stride: usize) -> u16
     requires { ⌜ ((j : ℕ) → j < blockSide → start + j * stride + blockSide ≤ length (now s)) ⌝ }
     ensures { λ r. ⌜ r ≡ squareSum (now (s .entry)) start stride ⌝ }
 {
-    let mut sum: u32 = 0;
+    let mut sum: u16 = 0;
     for j in 0..SIDE {
         let i = start + j * stride;
         sum += sum_row(&s[i..]);
@@ -40,8 +41,8 @@ fn sum_8x8_block(s: &[u8], start: usize, stride: usize) -> u32
 }
 
 // How far two rounded means lie apart. Each is rounded by itself: the mean of the differences is another number.
-fn means_apart(org: u32, other: u32) -> u32
-    requires { ⌜ (org < 2 ^ 31) × (other < 2 ^ 31) ⌝ }
+fn means_apart(org: u16, other: u16) -> u16
+    requires { ⌜ (org < 2 ^ 15) × (other < 2 ^ 15) ⌝ }
     ensures { λ r. ⌜ r ≡ apart (mean org) (mean other) ⌝ }
 {
     let m = (org + 32) / 64;

@@ -1,5 +1,5 @@
 -- Sums of absolute differences, of a row and of a plane, over the largest sample k. Assumes nothing.
-use mathlib.Core.Path.{_≡_}
+use mathlib.Core.Path.{_≡_, ap, _∙_}
 use mathlib.Core.List.{List}
 use Prim.Native.Nat.{ℕ, _+_, _*_, _≤_, _<_, _^_}
 use native.Mathlib.Omega.{arith}
@@ -8,12 +8,30 @@ use Rattle.plane.specs.declared.Plane.{Plane}
 use Rattle.plane.specs.Planes.{sampleAt, rowOf, pairFault}
 use Rattle.plane.proofs.PlaneLaws.{Lies, row-at, pair, measured, total-fits}
 use Rattle.sums.specs.Sums.{sumBelow, apart}
-use Rattle.sums.proofs.SumLaws.{sum-ext, sum-most}
-use Rattle.sad.specs.Difference.{gapAt, rowSad, planeSad}
+use Rattle.sums.proofs.SumLaws.{sum-ext, sum-most, sum-cut}
+use Rattle.sad.specs.Difference.{gapAt, gapsFrom, rowSad, planeSad}
+
+-- a part of two rows cut in two, and chunk after chunk
+module _ (a b : List ℕ) (at : ℕ) where
+  gaps-cut : (m n : ℕ) → gapsFrom a b at (m + n) ≡ gapsFrom a b at m + gapsFrom a b (at + m) n
+  gaps-cut m n =
+      sum-cut m n (λ (i : ℕ). gapAt a b (at + i))
+      ∙ ap (λ (rest : ℕ). gapsFrom a b at m + rest)
+      (sum-ext n (λ (i : ℕ). gapAt a b (at + (m + i))) (λ (i : ℕ). gapAt a b (at + m + i)) (λ i _. ap (gapAt a b) (omega arith)))
+
+  pub chunk-more : (c n : ℕ) → gapsFrom a b at ((c + 1) * n) ≡ gapsFrom a b at (c * n) + gapsFrom a b (at + c * n) n
+  chunk-more c n = ap (gapsFrom a b at) (omega arith) ∙ gaps-cut (c * n) n
+
+-- a row from its first place on, and with one part more
+pub row-from : (a b : List ℕ) (n : ℕ) → gapsFrom a b 0 n ≡ sumBelow n (gapAt a b)
+row-from a b n = sum-ext n (λ (i : ℕ). gapAt a b (0 + i)) (gapAt a b) (λ i _. ap (gapAt a b) (omega arith))
+
+pub row-more : (a b : List ℕ) (m n r part : ℕ) → r ≡ sumBelow m (gapAt a b) → part ≡ gapsFrom a b m n → r + part ≡ sumBelow (m + n) (gapAt a b)
+row-more a b m n r part e g = omega (arith, sum-cut m n (gapAt a b))
 
 module _ (k : ℕ) (a b : List ℕ) (l : (i : ℕ) → getD a i 0 ≤ k) (m : (i : ℕ) → getD b i 0 ≤ k) where
-  pub gaps-most : (n : ℕ) → sumBelow n (gapAt a b) ≤ n * k
-  gaps-most n = sum-most k n (gapAt a b) (λ i h. omega (arith, l i, m i))
+  pub gaps-most : (at n : ℕ) → gapsFrom a b at n ≤ n * k
+  gaps-most at n = sum-most k n (λ (i : ℕ). gapAt a b (at + i)) (λ i h. omega (arith, l (at + i), m (at + i)))
 
   pub rows-most : (p q : Plane) (n : ℕ) → sumBelow n (rowSad p a q b) ≤ n * (p .width * k)
   rows-most p q n =

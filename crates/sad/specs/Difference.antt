@@ -1,5 +1,6 @@
 -- Document 01, "Plane difference and scale": the sum of absolute differences over the visible samples, and delta.
-use Prim.Native.Nat.{ℕ, _*_}
+use mathlib.Core.Path.{_≡_}
+use Prim.Native.Nat.{ℕ, _+_, _*_, _≤_}
 use mathlib.Core.List.{List}
 use lib.Ieee.{Float}
 use lib.ListN.{length, getD}
@@ -28,3 +29,11 @@ differenceOf depth p a q b = answered (pairFault depth p (length a) q (length b)
 abbrev pub deltaOf : ℕ → Plane → List ℕ → Plane → List ℕ → Answer Float
 deltaOf depth p a q b =
     answered (pairFault depth p (length a) q (length b)) (quotientOf (planeSad p a q b) (p .width * p .height))
+
+-- for the private functions: the sum over n places of two rows from a place on, and two rows of one length that reach as far as n
+abbrev pub gapsFrom : List ℕ → List ℕ → ℕ → ℕ → ℕ
+gapsFrom a b at n = sumBelow n (λ (i : ℕ). gapAt a b (at + i))
+
+pub record Within (a b : List ℕ) (n : ℕ) : Type 0 where
+  pub lengths : length a ≡ length b
+  pub most : n ≤ length a

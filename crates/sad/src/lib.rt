@@ -3,24 +3,58 @@ use answer::Real;
 use answer::Whole;
 use plane::Plane;
 ghost use mathlib.Core.Path.{_≡_};
-ghost use Prim.Native.Nat.{_≤_};
+ghost use Prim.Native.Nat.{_+_, _*_, _^_, _≤_, _<_};
 ghost use lib.ListN.{length};
 ghost use Rattle.answer.specs.Answer.{wholeAnswer, realAnswer};
 ghost use Rattle.plane.specs.Planes.{maxSide, sizesFault};
 ghost use Rattle.sums.specs.Sums.{sumBelow};
-ghost use Rattle.sad.specs.Difference.{gapAt, planeSad, differenceOf, deltaOf};
+ghost use Rattle.sad.specs.Difference.{gapAt, gapsFrom, Within, planeSad, differenceOf, deltaOf};
 
-// The sum of absolute differences of two rows of one length. No index is tested here, so the loop is vectorised.
+// A row is taken in chunks of CHUNK samples, what is left of it in chunks of SMALL_CHUNK, and the last few one by one.
+const CHUNK: usize = 32;
+
+const SMALL_CHUNK: usize = 8;
+
+// The sum over n samples from a place on. With an n that is constant where this is inlined, the compiler takes 16 samples
+// in one vector instruction; a sum of 16 bits spares it the widening of every distance.
+fn chunk_sad(a: &[u8], b: &[u8], at: usize, n: usize) -> u16
+    requires { ⌜ Within (now a) (now b) (at + n) ⌝ }
+    requires { ⌜ n * 255 < 2 ^ 16 ⌝ }
+    ensures { λ r. ⌜ r ≡ gapsFrom (now (a .entry)) (now (b .entry)) at n ⌝ }
+{
+    let mut sum: u16 = 0;
+    for i in 0..n {
+        sum += sums::distance(a[at + i], b[at + i]);
+    }
+    sum
+}
+
+// The sum over a number of chunks of n samples each, from a place on.
+fn chunks_sad(a: &[u8], b: &[u8], from: usize, chunks: usize, n: usize) -> u32
+    requires { ⌜ Within (now a) (now b) (from + chunks * n) ⌝ }
+    requires { ⌜ n * 255 < 2 ^ 16 ⌝ }
+    requires { ⌜ length (now a) ≤ maxSide ⌝ }
+    ensures { λ r. ⌜ r ≡ gapsFrom (now (a .entry)) (now (b .entry)) from (chunks * n) ⌝ }
+{
+    let mut sum: u32 = 0;
+    for c in 0..chunks {
+        sum += chunk_sad(a, b, from + c * n, n) as u32;
+    }
+    sum
+}
+
+// The sum of absolute differences of two rows of one length.
 fn row_sad(a: &[u8], b: &[u8]) -> u32
     requires { ⌜ length (now a) ≡ length (now b) ⌝ }
     requires { ⌜ length (now a) ≤ maxSide ⌝ }
     ensures { λ r. ⌜ r ≡ sumBelow (length (now (a .entry))) (gapAt (now (a .entry)) (now (b .entry))) ⌝ }
 {
-    let mut sum: u32 = 0;
-    for x in 0..a.len() {
-        sum += sums::distance(a[x], b[x]);
-    }
-    sum
+    let chunks = a.len() / CHUNK;
+    let from = chunks * CHUNK;
+    let small = (a.len() - from) / SMALL_CHUNK;
+    let last = from + small * SMALL_CHUNK;
+    let sum = chunks_sad(a, b, 0, chunks, CHUNK) + chunks_sad(a, b, from, small, SMALL_CHUNK);
+    sum + chunks_sad(a, b, last, a.len() - last, 1)
 }
 
 // The sum over the visible samples of two planes that are not refused.

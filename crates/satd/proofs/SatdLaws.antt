@@ -1,15 +1,13 @@
 -- The SATD's numbers over the largest sample k: no difference is out of the transform's range where k is at most 65,535, and the SATD is at
 -- most 512 times k. So a u32 holds it, and the sum before the division, for samples of 8 and of 16 bits. Assumes nothing.
-use mathlib.Core.Path.{_≡_, _∙_}
+use mathlib.Core.Path.{_≡_}
 use mathlib.Core.List.{List}
-use Prim.Native.Nat.{ℕ, _+_, _*_, _≤_, _<_}
+use Prim.Native.Nat.{ℕ, _*_, _≤_, _<_}
 use native.Mathlib.Decide.{decLt}
 use native.Mathlib.Omega.{arith}
 use borrow.Author.Tests.{eq-eqb, ne-eqb}
-use borrow.Author.Count.{below-more}
-use lib.IntN.{ℤ, pos, natAbs}
-use lib.ListN.{length, getD, set, List·getD-eq-default}
-use lib.Seq.{getD-set-same, getD-set-other}
+use lib.IntN.{pos, natAbs}
+use lib.ListN.{length, getD, List·getD-eq-default}
 use Rattle.answer.specs.Refusal.{_orElse_}
 use Rattle.answer.specs.Answer.{gives, refused, answered}
 use Rattle.sums.proofs.TableLaws.{length-table, table-at}
@@ -62,12 +60,3 @@ module _ (k : ℕ) (first second : List ℕ) (p : (i : ℕ) → getD first i 0 �
   pub satd-most : satdValue first second ≤ side * side * side * k
   unfolding satdValue
   satd-most = omega (arith, sum-at-most)
-
--- ---- a list that is filled place by place
-module _ (g : ℕ → ℤ) where
-  pub one-filled : (l : List ℤ) (i : ℕ) (v : ℤ) → i < length l → ((t : ℕ) → t < i → getD l t (pos 0) ≡ g t) → v ≡ g i
-      → (t : ℕ) → t < i + 1 → getD (set l i v) t (pos 0) ≡ g t
-  one-filled l i v h all e =
-      below-more (λ (t : ℕ). getD (set l i v) t (pos 0) ≡ g t) i
-      (λ t t<. getD-set-other l i t v (pos 0) (λ d. omega arith) ∙ all t t<)
-      (getD-set-same l i v (pos 0) h ∙ e)

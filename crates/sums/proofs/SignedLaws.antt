@@ -1,15 +1,16 @@
--- Sizes and signs of whole numbers, and the distance of two samples of up to 16 bits by a signed difference. Assumes nothing.
+-- Sizes and signs of whole numbers, and the distance of two samples by a signed difference of any width. Assumes nothing.
 use mathlib.Core.Path.{_≡_, refl, ap, _∙_}
 use mathlib.Core.Bool.{Bool, true, false, cond, true≢false}
 use Prim.Native.Nat.{ℕ, zero, suc, _-_, _≤_, _<_, _^_}
 use native.Mathlib.Omega.{arith}
-use borrow.Author.Tests.{lt-ltb, ltb-true, ltb-false}
+use borrow.Author.Tests.{ltb-true, ltb-false}
 use lib.Dec.{T, ltb}
 use lib.IntN.{ℤ, pos, negsuc, negℤ, _-ℤ_, +ℤ-idl, natAbs}
 use lib.Signed.{mag, ltZ, nonNeg}
-use mir.Syntax.{w32}
-use mir.Val.{SFits, Fits, toZ, ofZ}
-use mir.Facts.{toZ-ofZ}
+use mir.Syntax.{Width}
+use mir.Val.{SFits, Fits, hbits, toZ, ofZ}
+use mir.ValLaws.{pow-bits}
+use mir.Facts.{toZ-ofZ, toZ-pos}
 use Rattle.sums.specs.Sums.{apart}
 
 -- a difference's size is the distance
@@ -43,38 +44,36 @@ pub below : (z : ℤ) → ltZ z (pos 0) ≡ true → T (nonNeg (pos 0 -ℤ z))
 below (pos n) e = absurd (omega (arith, ltb-true n 0 e))
 below (negsuc n) e = tt
 
-read : (n : ℕ) → n < 2 ^ 16 → toZ w32 n ≡ pos n
-read n h = rw (lt-ltb n (2 ^ 31) (omega arith))
-
-module _ (x y : ℕ) (h : x < 2 ^ 16) (k : y < 2 ^ 16) where
-  fits : (z : ℤ) → natAbs z ≡ apart x y → SFits w32 z
+-- samples that a signed number of width w holds: in 16 bits bytes, in 32 bits samples of 16 bits too
+module _ (w : Width) (x y : ℕ) (h : x < 2 ^ hbits w) (k : y < 2 ^ hbits w) where
+  fits : (z : ℤ) → natAbs z ≡ apart x y → SFits w z
   fits z e = record { sfits = omega (arith, mag-abs z) }
 
-  difference-is : toZ w32 x -ℤ toZ w32 y ≡ pos x -ℤ pos y
-  difference-is = rw (read x h, read y k)
+  difference-is : toZ w x -ℤ toZ w y ≡ pos x -ℤ pos y
+  difference-is = rw (toZ-pos w h, toZ-pos w k)
 
   -- the difference fits, and is read back as it was
-  pub difference-fits : SFits w32 (toZ w32 x -ℤ toZ w32 y)
+  pub difference-fits : SFits w (toZ w x -ℤ toZ w y)
   difference-fits = rw difference-is (fits (pos x -ℤ pos y) (abs-difference x y))
 
-  pub read-back : toZ w32 (ofZ w32 (toZ w32 x -ℤ toZ w32 y)) ≡ pos x -ℤ pos y
+  pub read-back : toZ w (ofZ w (toZ w x -ℤ toZ w y)) ≡ pos x -ℤ pos y
   read-back = toZ-ofZ difference-fits ∙ difference-is
 
   -- below 0 its negation fits and is the distance
-  pub negated-fits : SFits w32 (pos 0 -ℤ (pos x -ℤ pos y))
+  pub negated-fits : SFits w (pos 0 -ℤ (pos x -ℤ pos y))
   negated-fits = fits (pos 0 -ℤ (pos x -ℤ pos y)) (abs-neg (pos x -ℤ pos y) ∙ abs-difference x y)
 
-  pub negated-cast : ltZ (pos x -ℤ pos y) (pos 0) ≡ true → let z = toZ w32 (ofZ w32 (pos 0 -ℤ (pos x -ℤ pos y))) in T (nonNeg z) × Fits w32 (natAbs z)
+  pub negated-cast : ltZ (pos x -ℤ pos y) (pos 0) ≡ true → let z = toZ w (ofZ w (pos 0 -ℤ (pos x -ℤ pos y))) in T (nonNeg z) × Fits w (natAbs z)
   negated-cast e =
       rw (toZ-ofZ negated-fits)
-      (below (pos x -ℤ pos y) e, record { fits = omega (arith, abs-neg (pos x -ℤ pos y), abs-difference x y) })
+      (below (pos x -ℤ pos y) e, record { fits = omega (arith, pow-bits w, abs-neg (pos x -ℤ pos y), abs-difference x y) })
 
-  pub negated-is : natAbs (toZ w32 (ofZ w32 (pos 0 -ℤ (pos x -ℤ pos y)))) ≡ apart x y
+  pub negated-is : natAbs (toZ w (ofZ w (pos 0 -ℤ (pos x -ℤ pos y)))) ≡ apart x y
   negated-is = ap natAbs (toZ-ofZ negated-fits) ∙ abs-neg (pos x -ℤ pos y) ∙ abs-difference x y
 
   -- from 0 on it is the distance itself
-  pub same-cast : ltZ (pos x -ℤ pos y) (pos 0) ≡ false → T (nonNeg (pos x -ℤ pos y)) × Fits w32 (natAbs (pos x -ℤ pos y))
-  same-cast e = (not-below (pos x -ℤ pos y) e, record { fits = omega (arith, abs-difference x y) })
+  pub same-cast : ltZ (pos x -ℤ pos y) (pos 0) ≡ false → T (nonNeg (pos x -ℤ pos y)) × Fits w (natAbs (pos x -ℤ pos y))
+  same-cast e = (not-below (pos x -ℤ pos y) e, record { fits = omega (arith, pow-bits w, abs-difference x y) })
 
   pub same-is : natAbs (pos x -ℤ pos y) ≡ apart x y
   same-is = abs-difference x y

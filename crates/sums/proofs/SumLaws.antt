@@ -1,6 +1,7 @@
 -- The laws of `sumBelow`. Each is stated over the function that is summed, so that it serves samples of any width. Assumes nothing.
 use mathlib.Core.Path.{_≡_, refl}
 use Prim.Native.Nat.{ℕ, zero, suc, _+_, _*_, _≤_, _<_}
+use native.Mathlib.Nat.{add-zero, add-suc}
 use native.Mathlib.Numerals.{add-one}
 use native.Mathlib.Omega.{arith}
 use Rattle.sums.specs.Sums.{sumBelow}
@@ -25,6 +26,12 @@ pub sum-most : (b n : ℕ) (f : ℕ → ℕ) → ((i : ℕ) → i < n → f i �
 unfolding sumBelow
 sum-most b zero f e = omega arith
 sum-most b (suc n) f e = let here = e n (omega arith) in let rest = sum-most b n f (λ i l. e i (omega arith)) in omega arith
+
+-- a sum cut in two, anywhere
+pub sum-cut : (m n : ℕ) (f : ℕ → ℕ) → sumBelow (m + n) f ≡ sumBelow m f + sumBelow n (λ (i : ℕ). f (m + i))
+unfolding sumBelow
+sum-cut m zero f = rw (add-zero m) (omega arith)
+sum-cut m (suc n) f = let rest = sum-cut m n f in rw add-suc (omega arith)
 
 -- a sum whose end is another number that is the same
 pub sum-to : (r m n : ℕ) (f : ℕ → ℕ) → r ≡ sumBelow m f → m ≡ n → r ≡ sumBelow n f

@@ -2,11 +2,12 @@
 use mathlib.Core.Logic.{⊎-elim}
 use mathlib.Core.List.{List, [], _∷_, _++_}
 use mathlib.Core.Path.{_≡_, refl, sym, subst, _∙_}
-use Prim.Native.Nat.{ℕ, zero, suc, _<_}
+use Prim.Native.Nat.{ℕ, zero, suc, _+_, _<_}
 use native.Mathlib.Nat.{eq-or-lt-of-le}
 use native.Mathlib.Omega.{arith}
-use lib.ListN.{length, getD, length-append, List·getD-append}
-use lib.Seq.{getD-at, ext-getD}
+use borrow.Author.Count.{below-more}
+use lib.ListN.{length, getD, set, length-append, List·getD-append}
+use lib.Seq.{getD-at, ext-getD, getD-set-same, getD-set-other}
 use Rattle.sums.specs.Table.{table}
 
 pub length-table : {A : Type 0} (n : ℕ) (g : ℕ → A) → length (table n g) ≡ n
@@ -35,3 +36,11 @@ module _ {A : Type 0} (d : A) where
   is-table n g l e h =
       ext-getD d l (table n g) (e ∙ sym (length-table n g))
       (λ k k<. let k<n : k < n = omega arith in h k k<n ∙ sym (table-at n g k k<n))
+
+  -- a list that is filled place by place: one more
+  pub one-filled : (g : ℕ → A) (l : List A) (i : ℕ) (v : A) → i < length l → ((t : ℕ) → t < i → getD l t d ≡ g t) → v ≡ g i
+      → (t : ℕ) → t < i + 1 → getD (set l i v) t d ≡ g t
+  one-filled g l i v h all e =
+      below-more (λ (t : ℕ). getD (set l i v) t d ≡ g t) i
+      (λ t t<. getD-set-other l i t v d (λ c. omega arith) ∙ all t t<)
+      (getD-set-same l i v d h ∙ e)

@@ -4,13 +4,13 @@ ghost use Prim.Native.Nat.{min};
 ghost use Rattle.sums.specs.Sums.{apart};
 ghost use Rattle.sums.specs.Quotient.{quotientOf};
 
-// How far two samples lie apart. A signed difference, since the compiler turns this form into the fewest vector
-// instructions.
-pub fn distance(x: u8, y: u8) -> u32
+// How far two samples lie apart. A signed difference, and all of it in 16 bits, since the compiler turns this form into
+// the fewest vector instructions.
+pub fn distance(x: u8, y: u8) -> u16
     ensures { λ r. ⌜ r ≡ apart x y ⌝ }
 {
-    let d = (x as i32) - (y as i32);
-    if d < 0 { (0 - d) as u32 } else { d as u32 }
+    let d = (x as i16) - (y as i16);
+    if d < 0 { (0 - d) as u16 } else { d as u16 }
 }
 
 // A total over a count, each taken to a float first. A count of 0 gives an infinity, and 0 over 0 a NaN.

@@ -11,27 +11,25 @@ use Rattle.hadamard.proofs.lines.Statement.{statement}
 use Rattle.hadamard.proofs.lines.Tie as tie
 
 abbrev Inv-loop : tie.InvT-loop
-Inv-loop block₀ n first step i₀ block i = (i ≤ n) × (block ≡ allLined n first step i block₀)
+Inv-loop block₀ first step i₀ block i = (i ≤ 4) × (block ≡ allLined 4 first step i block₀)
 
 abbrev μ-loop : tie.MeasureT-loop
-μ-loop block₀ n first step i₀ block i = n - i
+μ-loop block₀ first step i₀ block i = 4 - i
 
 loop-holds : tie.Need-loop-holds Inv-loop μ-loop
-loop-holds c = let s = c .args in (search needs, none-lined (s .n) (s .first) (s .step) (s .block .now))
+loop-holds c = let s = c .args in (search needs, none-lined 4 (s .first) (s .step) (s .block .now))
 
-mul-line : tie.Need-mul-line Inv-loop μ-loop
-mul-line c =
+mul-line4 : tie.Need-mul-line4 Inv-loop μ-loop
+mul-line4 c =
     let l = c .before .before in
     let s = l .before in
-    omega (arith, s .pre .1 .0 .room (l .loop .i) 0 (omega arith) (omega arith), s .good .0 .0)
+    omega (arith, s .pre .room (l .loop .i) 0 (omega arith) (omega arith), s .good .0 .0)
 
-line-requires : tie.Need-line-requires Inv-loop μ-loop
-line-requires c κs =
+line4-requires : tie.Need-line4-requires Inv-loop μ-loop
+line4-requires c κs =
     let l = c .before .before in
-    let s = l .before in (
-      s .pre .0,
-      rw (l .loop .inv .1) (next-line (s .args .n) (s .args .first) (s .args .step) (s .args .block .now) (s .pre .1 .0) lineMost (l .loop .i) (s .pre .1 .1) (omega arith)),
-    )
+    let s = l .before in
+    rw (l .loop .inv .1) (next-line 4 (s .args .first) (s .args .step) 4 lineMost (s .args .block .now) (s .pre) (l .loop .i) (omega arith))
 
 add-i : tie.Need-add-i Inv-loop μ-loop
 add-i c = search needs
@@ -44,16 +42,16 @@ loop-again c =
     let l = c .before .before .before .before in
     let s = l .before .args in (
       search needs,
-      c .before .line .ensures ∙ ap (lined (s .n) (l .loop .i * s .first) (s .step)) (l .loop .inv .1) ∙ more-lined (s .n) (s .first) (s .step) (l .loop .i) (s .block .now),
+      c .before .line4 .ensures ∙ ap (lined 4 (l .loop .i * s .first) (s .step)) (l .loop .inv .1) ∙ more-lined 4 (s .first) (s .step) (l .loop .i) (s .block .now),
     )
 
 same-length : tie.Need-same-length Inv-loop μ-loop
-same-length c = let s = c .before .before .args in ap length (c .before .loop .inv .1) ∙ length-lined (s .n) (s .first) (s .step) (c .before .loop .i) (s .block .now)
+same-length c = let s = c .before .before .args in ap length (c .before .loop .inv .1) ∙ length-lined 4 (s .first) (s .step) (c .before .loop .i) (s .block .now)
 
 returns : tie.Need-returns Inv-loop μ-loop
 returns c =
     let s = c .before .before .args in
-    c .before .loop .inv .1 ∙ ap (λ (m : ℕ). allLined (s .n) (s .first) (s .step) m (s .block .now)) (omega arith)
+    c .before .loop .inv .1 ∙ ap (λ (m : ℕ). allLined 4 (s .first) (s .step) m (s .block .now)) (omega arith)
 
 pub lines-spec : {M : Type 1} → statement M
 lines-spec =
@@ -62,8 +60,8 @@ lines-spec =
     Inv-loop
     μ-loop
     loop-holds
-    mul-line
-    line-requires
+    mul-line4
+    line4-requires
     add-i
     loop-less
     loop-again

@@ -1,77 +1,94 @@
--- `sad::row_sad` meets its contract. After x turns the sum is that of the first x pairs, which by the bound on a sample fits. Assumes nothing.
-use mathlib.Core.Path.{_≡_}
-use Prim.Native.Nat.{_+_, _*_, _≤_, _-_}
+-- `sad::row_sad` meets its contract: a row is its chunks, the small chunks of what is left, and the rest, each cut off where the one before it ends.
+-- Assumes nothing.
+use mathlib.Core.Path.{_≡_, _∙_}
+use Prim.Native.Nat.{ℕ, _+_, _*_, _≤_, _-_, _/_}
 use native.Mathlib.Omega.{arith}
 use borrow.Author.Needs.{needs}
 use lib.ListN.{length}
 use Rattle.sums.specs.Sums.{sumBelow}
-use Rattle.sums.proofs.SumLaws.{sum-none, sum-more, sum-to}
+use Rattle.sums.proofs.SumLaws.{sum-to}
 use Rattle.sad.specs.Difference.{gapAt}
-use Rattle.sad.proofs.SadLaws.{gaps-most}
+use Rattle.sad.proofs.SadLaws.{gaps-most, row-from, row-more}
 use Rattle.sad.proofs.row_sad.Statement.{statement}
 use Rattle.sad.proofs.row_sad.Tie as tie
 
-abbrev Inv-loop : tie.InvT-loop
-Inv-loop a b sum₀ x₀ x-end sum x = (x-end ≡ length a) × (x ≤ length a) × (sum ≡ sumBelow x (gapAt a b))
+mul-from : tie.Need-mul-from
+mul-from c = search needs
 
-abbrev μ-loop : tie.MeasureT-loop
-μ-loop a b sum₀ x₀ x-end sum x = x-end - x
+sub-small : tie.Need-sub-small
+sub-small c = search needs
 
-loop-holds : tie.Need-loop-holds Inv-loop μ-loop
-loop-holds c = (search needs, search needs, sum-none _)
+mul-last : tie.Need-mul-last
+mul-last c = search needs
 
-shared-slice-read-distance : tie.Need-shared-slice-read-distance Inv-loop μ-loop
-shared-slice-read-distance c = search needs
+add-last : tie.Need-add-last
+add-last c = search needs
 
-shared-slice-read-distance-2 : tie.Need-shared-slice-read-distance-2 Inv-loop μ-loop
-shared-slice-read-distance-2 c = search needs
+chunks-sad-requires : tie.Need-chunks-sad-requires
+chunks-sad-requires c κs = search needs
 
-distance-requires : tie.Need-distance-requires Inv-loop μ-loop
-distance-requires c κs = search needs
+chunks-sad-requires-2 : tie.Need-chunks-sad-requires-2
+chunks-sad-requires-2 c κs = search needs
 
--- a turn's sum, and its bound
-next : (c : tie.After-distance Inv-loop μ-loop)
-    → let l = c .before .before .before .before in
-    let s = l .before .before .before .args in
-    let more = sumBelow (l .loop .x + 1) (gapAt (s .a .now) (s .b .now)) in
-    (l .loop .sum + c .distance .result ≡ more) × (more ≤ (l .loop .x + 1) * 255)
-next c =
-    let l = c .before .before .before .before in
-    let s = l .before .before .before .args in (
-      omega (arith, sum-more (l .loop .x) (gapAt (s .a .now) (s .b .now))),
-      gaps-most 255 (s .a .now) (s .b .now)
-          (λ i. omega (arith, l .before .before .shared-slice-known .given i))
-          (λ i. omega (arith, l .before .shared-slice-known2 .given i))
-          (l .loop .x + 1),
-    )
+-- where the small chunks end
+abbrev last : tie.Start → ℕ
+last s = let n = length (s .args .a .now) in n / 32 * 32 + (n - n / 32 * 32) / 8 * 8
 
-add-sum : tie.Need-add-sum Inv-loop μ-loop
-add-sum c = let h = next c in omega arith
+-- the row's first n pairs, and their bound
+abbrev row : tie.Start → ℕ → ℕ
+row s n = sumBelow n (gapAt (s .args .a .now) (s .args .b .now))
 
-add-x : tie.Need-add-x Inv-loop μ-loop
-add-x c = search needs
+row-most : (c : tie.After-shared-slice-known2) (n : ℕ) → row (c .before .before) n ≤ n * 255
+row-most c n =
+    let s = c .before .before .args in
+    rw (← row-from (s .a .now) (s .b .now) n)
+    (gaps-most 255 (s .a .now) (s .b .now)
+    (λ i. omega (arith, c .before .shared-slice-known .given i))
+    (λ i. omega (arith, c .shared-slice-known2 .given i))
+    0 n)
 
-loop-less : tie.Need-loop-less Inv-loop μ-loop
-loop-less c = search needs
+-- both kinds of chunks, and then all of the row
+chunked : (c : tie.After-chunks-sad2)
+    → let s = c .before .before .before .before in
+    c .before .chunks-sad .result + c .chunks-sad2 .result ≡ row s (last s)
+chunked c =
+    let s = c .before .before .before .before .args in
+    row-more (s .a .now) (s .b .now) _ _ _ _ (c .before .chunks-sad .ensures ∙ row-from (s .a .now) (s .b .now) _) (c .chunks-sad2 .ensures)
 
-loop-again : tie.Need-loop-again Inv-loop μ-loop
-loop-again c = (search needs, search needs, next c .0)
+whole : (c : tie.After-chunks-sad3)
+    → let s = c .before .before .before .before .before in
+    c .before .before .chunks-sad .result + c .before .chunks-sad2 .result + c .chunks-sad3 .result ≡ row s (length (s .args .a .now))
+whole c =
+    let s = c .before .before .before .before .before .args in
+    sum-to _ _ _ _ (row-more (s .a .now) (s .b .now) _ _ _ _ (chunked (c .before)) (c .chunks-sad3 .ensures)) (omega arith)
 
-returns : tie.Need-returns Inv-loop μ-loop
-returns c = sum-to _ _ _ _ (c .before .loop .inv .2) (omega arith)
+add-sum : tie.Need-add-sum
+add-sum c = omega (arith, chunked c, row-most (c .before .before) (last (c .before .before .before .before)))
+
+sub-chunks-sad : tie.Need-sub-chunks-sad
+sub-chunks-sad c = search needs
+
+chunks-sad-requires-3 : tie.Need-chunks-sad-requires-3
+chunks-sad-requires-3 c κs = search needs
+
+add-result : tie.Need-add-result
+add-result c = let s = c .before .before .before .before .before in omega (arith, whole c, row-most (c .before .before .before) (length (s .args .a .now)))
+
+returns : tie.Need-returns
+returns c = whole c
 
 pub row-sad-spec : {M : Type 1} → statement M
 row-sad-spec =
     tie.close
     (tie.spec
-    Inv-loop
-    μ-loop
-    loop-holds
-    shared-slice-read-distance
-    shared-slice-read-distance-2
-    distance-requires
+    mul-from
+    sub-small
+    mul-last
+    add-last
+    chunks-sad-requires
+    chunks-sad-requires-2
     add-sum
-    add-x
-    loop-less
-    loop-again
+    sub-chunks-sad
+    chunks-sad-requires-3
+    add-result
     returns)

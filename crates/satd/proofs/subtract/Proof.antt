@@ -6,9 +6,8 @@ use borrow.Author.Needs.{needs, sfits-of}
 use lib.IntN.{pos}
 use lib.ListN.{length, getD, length-set}
 use mir.Facts.{toZ-ofZ}
-use Rattle.sums.proofs.TableLaws.{is-table}
+use Rattle.sums.proofs.TableLaws.{is-table, one-filled}
 use Rattle.satd.specs.Satd.{side, difference}
-use Rattle.satd.proofs.SatdLaws.{one-filled}
 use Rattle.satd.proofs.subtract.Statement.{statement}
 use Rattle.satd.proofs.subtract.Tie as tie
 
@@ -49,7 +48,7 @@ loop-again c =
     let s = l .before .before .before .args in (
       search needs,
       simp length-set (l .loop .inv .1),
-      one-filled (difference (s .first .now) (s .second .now)) (l .loop .block) (l .loop .i) _ (omega arith) (l .loop .inv .2) (toZ-ofZ (sfits-of (c .gap .ok)) ∙ c .gap .ensures),
+      one-filled (pos 0) (difference (s .first .now) (s .second .now)) (l .loop .block) (l .loop .i) _ (omega arith) (l .loop .inv .2) (toZ-ofZ (sfits-of (c .gap .ok)) ∙ c .gap .ensures),
     )
 
 same-length : tie.Need-same-length Inv-loop μ-loop

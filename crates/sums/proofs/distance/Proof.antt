@@ -1,9 +1,9 @@
--- `sums::distance` meets its contract: two bytes' difference fits an i32, and its size is the distance. Assumes nothing.
+-- `sums::distance` meets its contract: two bytes' difference fits an i16, and its size is the distance. Assumes nothing.
 use mathlib.Core.Path.{_≡_}
 use native.Mathlib.Omega.{arith}
 use borrow.Author.Needs.{needs}
 use lib.IntN.{pos, _-ℤ_}
-use mir.Syntax.{w32}
+use mir.Syntax.{w16}
 use mir.Val.{toZ, ofZ}
 use Rattle.sums.proofs.SignedLaws.{read-back, difference-fits, negated-fits, negated-cast, negated-is, same-cast, same-is}
 use Rattle.sums.proofs.distance.Statement.{statement}
@@ -16,30 +16,30 @@ cast-d-2 : tie.Need-cast-d-2
 cast-d-2 c = search needs
 
 -- what is stored as d is the difference
-stored : (s : tie.Start) → toZ w32 (ofZ w32 (toZ w32 (s .args .x) -ℤ toZ w32 (s .args .y))) ≡ pos (s .args .x) -ℤ pos (s .args .y)
-stored s = read-back (s .args .x) (s .args .y) (omega arith) (omega arith)
+stored : (s : tie.Start) → toZ w16 (ofZ w16 (toZ w16 (s .args .x) -ℤ toZ w16 (s .args .y))) ≡ pos (s .args .x) -ℤ pos (s .args .y)
+stored s = read-back w16 (s .args .x) (s .args .y) (omega arith) (omega arith)
 
 sub-d : tie.Need-sub-d
-sub-d c = difference-fits (c .args .x) (c .args .y) (omega arith) (omega arith)
+sub-d c = difference-fits w16 (c .args .x) (c .args .y) (omega arith) (omega arith)
 
 sub-result : tie.Need-sub-result
-sub-result c = let s = c .before .args in rw (stored (c .before)) (negated-fits (s .x) (s .y) (omega arith) (omega arith))
+sub-result c = let s = c .before .args in rw (stored (c .before)) (negated-fits w16 (s .x) (s .y) (omega arith) (omega arith))
 
 cast-result : tie.Need-cast-result
 cast-result c =
     let s = c .before .args in
-    rw (stored (c .before)) (negated-cast (s .x) (s .y) (omega arith) (omega arith) (rw (stored (c .before)) at (c .if1 .taken)))
+    rw (stored (c .before)) (negated-cast w16 (s .x) (s .y) (omega arith) (omega arith) (rw (stored (c .before)) at (c .if1 .taken)))
 
 cast-result-2 : tie.Need-cast-result-2
 cast-result-2 c =
     let s = c .before .args in
-    rw (stored (c .before)) (same-cast (s .x) (s .y) (omega arith) (omega arith) (rw (stored (c .before)) at (c .if1 .left)))
+    rw (stored (c .before)) (same-cast w16 (s .x) (s .y) (omega arith) (omega arith) (rw (stored (c .before)) at (c .if1 .left)))
 
 returns : tie.Need-returns
-returns c = let s = c .before .args in rw (stored (c .before)) (negated-is (s .x) (s .y) (omega arith) (omega arith))
+returns c = let s = c .before .args in rw (stored (c .before)) (negated-is w16 (s .x) (s .y) (omega arith) (omega arith))
 
 returns-2 : tie.Need-returns-2
-returns-2 c = let s = c .before .args in rw (stored (c .before)) (same-is (s .x) (s .y) (omega arith) (omega arith))
+returns-2 c = let s = c .before .args in rw (stored (c .before)) (same-is w16 (s .x) (s .y) (omega arith) (omega arith))
 
 pub distance-spec : {M : Type 1} → statement M
 distance-spec =
