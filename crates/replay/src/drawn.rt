@@ -1,8 +1,12 @@
-// Samples and entries that the list names by a seed: the same small generator made them where the list was made.
-use crate::line::word;
+// Samples that the list names by a seed: the same small generator drew them where the list was made.
+use crate::desk;
+use crate::desk::word;
 
 // The generator: s × 1103515245 + 12345, modulo 2^31.
 const MODULUS: u64 = 2147483648;
+
+// The most samples of a plane.
+pub const SAMPLES: usize = 8704;
 
 pub fn next(s: u64) -> u64 {
     (s % MODULUS * 1103515245 + 12345) % MODULUS
@@ -16,66 +20,56 @@ pub fn below(s: u64, span: u64) -> u64 {
     s % span
 }
 
-// Sample after sample: the low one and something below the span, modulo 256.
-pub fn picture(samples: &mut [u8], low: u64, span: u64, seed: u64) {
-    let mut s = seed;
-    for i in 0..samples.len() {
-        s = next(s);
-        samples[i] = ((low % 256 + below(s / 65536, span) % 256) % 256) as u8;
+// A sample some places behind another.
+fn put_sample(samples: &mut [u8], from: usize, i: usize, value: u64) {
+    let at = std::num::wrapping_add_usize(from, i);
+    if at < samples.len() {
+        samples[at] = (value % 256) as u8;
     }
 }
 
-// A sample at a place, if there is such a place.
-pub fn put_sample(samples: &mut [u8], at: u64, value: u64) -> bool {
-    let i = at as usize;
-    if i < samples.len() {
-        samples[i] = (value % 256) as u8;
-        return true;
+// Sample after sample: the low one and something below the span, modulo 256.
+pub fn paint(desk: &mut [u64], samples: &mut [u8], from: usize) {
+    let len = desk::capped(desk, word(desk, 5), SAMPLES);
+    let low = word(desk, 6) % 256;
+    let mut s = word(desk, 8);
+    for i in 0..len {
+        s = next(s);
+        put_sample(
+            samples,
+            from,
+            i,
+            low + below(s / 65536, word(desk, 7)) % 256,
+        );
     }
-    false
 }
 
 // The samples that differ from the picture: pairs of a place and a value, to the end of the record.
-pub fn put_samples(samples: &mut [u8], words: &[u64], from: usize) -> bool {
-    if words.len() < from {
-        return false;
-    }
-    let left = words.len() - from;
-    let mut is_sound = left % 2 == 0;
+pub fn put_samples(desk: &mut [u64], samples: &mut [u8], from: usize, at: usize) {
+    let left = desk::left(desk, at);
+    desk::expect(desk, left % 2 == 0);
     for k in 0..left / 2 {
-        let at = word(words, from + 2 * k);
-        let value = word(words, from + 2 * k + 1);
-        is_sound = is_sound & put_sample(samples, at, value);
+        let i = desk::capped(desk, desk::word_at(desk, at, 2 * k), SAMPLES);
+        put_sample(samples, from, i, desk::word_at(desk, at, 2 * k + 1));
     }
-    is_sound
 }
 
 // So many samples of one value from a place on.
-fn put_run(samples: &mut [u8], at: u64, count: u64, value: u64) -> bool {
-    if samples.len() < count as usize {
-        return false;
-    }
-    let mut is_sound = true;
+fn put_run(samples: &mut [u8], from: usize, count: usize, value: u64) {
     for i in 0..count {
-        is_sound = is_sound & put_sample(samples, std::num::wrapping_add_u64(at, i), value);
+        put_sample(samples, from, i, value);
     }
-    is_sound
 }
 
 // Runs of samples: a place, a count and a value each, to the end of the record.
-pub fn put_runs(samples: &mut [u8], words: &[u64], from: usize) -> bool {
-    if words.len() < from {
-        return false;
-    }
-    let left = words.len() - from;
-    let mut is_sound = left % 3 == 0;
+pub fn put_runs(desk: &mut [u64], samples: &mut [u8], at: usize) {
+    let left = desk::left(desk, at);
+    desk::expect(desk, left % 3 == 0);
     for k in 0..left / 3 {
-        let at = word(words, from + 3 * k);
-        let count = word(words, from + 3 * k + 1);
-        let value = word(words, from + 3 * k + 2);
-        is_sound = is_sound & put_run(samples, at, count, value);
+        let from = desk::capped(desk, desk::word_at(desk, at, 3 * k), SAMPLES);
+        let count = desk::capped(desk, desk::word_at(desk, at, 3 * k + 1), SAMPLES);
+        put_run(samples, from, count, desk::word_at(desk, at, 3 * k + 2));
     }
-    is_sound
 }
 
 // Whether two lists of samples are the same.
@@ -91,20 +85,26 @@ pub fn same_samples(a: &[u8], b: &[u8]) -> bool {
     true
 }
 
-// The samples of one list in another that is as long.
-pub fn copy_samples(from: &[u8], to: &mut [u8]) {
-    if from.len() != to.len() {
-        return;
-    }
-    for i in 0..from.len() {
-        to[i] = from[i];
+// A sample some places behind another, 0 behind the last.
+fn sample(samples: &[u8], from: usize, i: usize) -> u8 {
+    let at = std::num::wrapping_add_usize(from, i);
+    if at < samples.len() { samples[at] } else { 0 }
+}
+
+// A list filled with samples from a place on.
+pub fn copy_samples(samples: &[u8], from: usize, to: &mut [u8]) {
+    for i in 0..to.len() {
+        to[i] = sample(samples, from, i);
     }
 }
 
-// The first samples of a list.
-pub fn front(samples: &[u8], count: usize) -> &[u8] {
-    if count <= samples.len() {
-        return &samples[..count];
+// So many samples from a place on; nothing where there are not so many.
+pub fn part(samples: &[u8], from: usize, len: usize) -> &[u8] {
+    if samples.len() < from {
+        return &samples[..0];
     }
-    &samples[..0]
+    if samples.len() - from < len {
+        return &samples[..0];
+    }
+    &samples[from..from + len]
 }

@@ -1,6 +1,6 @@
 // Floats and their bits. Any two NaNs are equal; other floats are equal where their bits are.
 
-// The bits without their sign; those of the fraction; an exponent of ones, as infinity and the NaNs have it.
+// The sign's bit; the lowest bit of the exponent; an exponent of ones, as infinity and the NaNs have it.
 const SIGN: u64 = 9223372036854775808;
 
 const FRACTION: u64 = 4503599627370496;

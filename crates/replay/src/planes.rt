@@ -1,12 +1,14 @@
 // Records on two planes: the planes themselves, their differences, the SATD.
+use crate::desk;
+use crate::desk::get;
+use crate::desk::word;
 use crate::drawn;
 use crate::float;
 use crate::line;
-use crate::line::word;
 use crate::tally;
 
-// A plane's record gives which it is, five numbers of its shape, and three of its picture.
-const SHAPE: usize = 5;
+// How many numbers a shape has, and where a plane's record goes on behind its picture.
+const NUMBERS: usize = 5;
 
 const PICTURE: usize = 9;
 
@@ -22,61 +24,31 @@ pub struct Shape {
     pub len: usize,
 }
 
-pub fn shape_of(shapes: &[u64], which: usize) -> Shape {
-    let at = which % 2 * SHAPE;
+pub fn shape_of(desk: &[u64], which: usize) -> Shape {
+    let at = desk::SHAPE + which % 2 * NUMBERS;
     Shape {
-        width: word(shapes, at) as usize,
-        height: word(shapes, at + 1) as usize,
-        stride: word(shapes, at + 2) as usize,
-        origin: word(shapes, at + 3) as usize,
-        len: word(shapes, at + 4) as usize,
+        width: get(desk, at) as usize,
+        height: get(desk, at + 1) as usize,
+        stride: get(desk, at + 2) as usize,
+        origin: get(desk, at + 3) as usize,
+        len: get(desk, at + 4) as usize,
     }
-}
-
-fn put_shape(shapes: &mut [u64], which: usize, words: &[u64]) {
-    let at = which % 2 * SHAPE;
-    line::put_word(shapes, at, word(words, 1));
-    line::put_word(shapes, at + 1, word(words, 2));
-    line::put_word(shapes, at + 2, word(words, 3));
-    line::put_word(shapes, at + 3, word(words, 4));
-    line::put_word(shapes, at + 4, word(words, 5));
-}
-
-// The samples of a plane: its picture, and those that differ from it.
-fn paint(samples: &mut [u8], words: &[u64]) -> bool {
-    let len = word(words, 5) as usize;
-    if samples.len() < len {
-        return false;
-    }
-    drawn::picture(
-        &mut samples[..len],
-        word(words, 6),
-        word(words, 7),
-        word(words, 8),
-    );
-    drawn::put_samples(&mut samples[..len], words, PICTURE)
 }
 
 // P: which, width, height, stride, origin, length, low, span, seed, samples that differ
-pub fn plane(words: &[u64], shapes: &mut [u64], first: &mut [u8], second: &mut [u8]) -> bool {
-    if words.len() < PICTURE {
-        return false;
+pub fn plane(desk: &mut [u64], samples: &mut [u8]) {
+    let which = desk::capped(desk, word(desk, 0), 1);
+    for i in 0..NUMBERS {
+        let n = word(desk, i + 1);
+        desk::put_at(desk, desk::SHAPE + which * NUMBERS, i, n);
     }
-    let which = word(words, 0);
-    if which == 0 {
-        put_shape(shapes, 0, words);
-        return paint(first, words);
-    }
-    if which == 1 {
-        put_shape(shapes, 1, words);
-        return paint(second, words);
-    }
-    false
+    drawn::paint(desk, samples, which * drawn::SAMPLES);
+    drawn::put_samples(desk, samples, which * drawn::SAMPLES, PICTURE);
 }
 
 // The two measures that are whole numbers.
-fn wholes(words: &[u64], a: Shape, first: &[u8], b: Shape, second: &[u8], tally: &mut [u64]) {
-    let depth = line::half(word(words, 0));
+fn wholes(desk: &mut [u64], a: Shape, first: &[u8], b: Shape, second: &[u8]) {
+    let depth = line::half(word(desk, 0));
     let difference = brinepulley::brine_plane_difference(
         depth,
         first,
@@ -90,9 +62,9 @@ fn wholes(words: &[u64], a: Shape, first: &[u8], b: Shape, second: &[u8], tally:
         b.stride,
         b.origin,
     );
-    let due = word(words, 1);
+    let due = word(desk, 1);
     tally::verdict(
-        tally,
+        desk,
         tally::DIFFERENCE,
         due,
         difference == line::signed(due),
@@ -110,14 +82,14 @@ fn wholes(words: &[u64], a: Shape, first: &[u8], b: Shape, second: &[u8], tally:
         b.stride,
         b.origin,
     );
-    let due = word(words, 2);
-    tally::verdict(tally, tally::TOTAL, due, total == line::signed(due));
+    let due = word(desk, 2);
+    tally::verdict(desk, tally::TOTAL, due, total == line::signed(due));
 }
 
 // The two that are quotients.
-fn reals(words: &[u64], a: Shape, first: &[u8], b: Shape, second: &[u8], tally: &mut [u64]) {
-    let depth = line::half(word(words, 0));
-    let due = word(words, 3);
+fn reals(desk: &mut [u64], a: Shape, first: &[u8], b: Shape, second: &[u8]) {
+    let depth = line::half(word(desk, 0));
+    let due = word(desk, 3);
     let mut delta = BEFORE;
     let answer = brinepulley::brine_delta(
         depth,
@@ -133,13 +105,8 @@ fn reals(words: &[u64], a: Shape, first: &[u8], b: Shape, second: &[u8], tally: 
         b.origin,
         &mut delta,
     );
-    let is_same = float::same(delta, word(words, 4));
-    tally::verdict(
-        tally,
-        tally::DELTA,
-        due,
-        is_same & (answer == line::signed(due)),
-    );
+    let is_same = float::same(delta, word(desk, 4)) & (answer == line::signed(due));
+    tally::verdict(desk, tally::DELTA, due, is_same);
     let mut importance = BEFORE;
     let answer = brinepulley::brine_importance(
         depth,
@@ -155,41 +122,29 @@ fn reals(words: &[u64], a: Shape, first: &[u8], b: Shape, second: &[u8], tally: 
         b.origin,
         &mut importance,
     );
-    let is_same = float::same(importance, word(words, 5));
-    tally::verdict(
-        tally,
-        tally::IMPORTANCE,
-        due,
-        is_same & (answer == line::signed(due)),
-    );
+    let is_same = float::same(importance, word(desk, 5)) & (answer == line::signed(due));
+    tally::verdict(desk, tally::IMPORTANCE, due, is_same);
 }
 
 // D: depth, plane difference, importance total, what the other two answer, delta, importance
-pub fn pair(words: &[u64], shapes: &[u64], first: &[u8], second: &[u8], tally: &mut [u64]) -> bool {
-    if words.len() != 6 {
-        return false;
-    }
-    let a = shape_of(shapes, 0);
-    let b = shape_of(shapes, 1);
-    let x = drawn::front(first, a.len);
-    let y = drawn::front(second, b.len);
-    wholes(words, a, x, b, y, tally);
-    reals(words, a, x, b, y, tally);
-    true
+pub fn pair(desk: &mut [u64], samples: &[u8]) {
+    desk::expect_words(desk, 6);
+    let a = shape_of(desk, 0);
+    let b = shape_of(desk, 1);
+    let first = drawn::part(samples, 0, a.len);
+    let second = drawn::part(samples, drawn::SAMPLES, b.len);
+    wholes(desk, a, first, b, second);
+    reals(desk, a, first, b, second);
 }
 
 // B: the SATD of the samples of the two planes
-pub fn satd(words: &[u64], shapes: &[u64], first: &[u8], second: &[u8], tally: &mut [u64]) -> bool {
-    if words.len() != 1 {
-        return false;
-    }
-    let a = shape_of(shapes, 0);
-    let b = shape_of(shapes, 1);
-    let answer = brinepulley::brine_satd8x8(
-        drawn::front(first, a.len),
-        drawn::front(second, b.len),
-    );
-    let due = word(words, 0);
-    tally::verdict(tally, tally::SATD, due, answer == line::signed(due));
-    true
+pub fn satd(desk: &mut [u64], samples: &[u8]) {
+    desk::expect_words(desk, 1);
+    let a = shape_of(desk, 0);
+    let b = shape_of(desk, 1);
+    let first = drawn::part(samples, 0, a.len);
+    let second = drawn::part(samples, drawn::SAMPLES, b.len);
+    let answer = brinepulley::brine_satd8x8(first, second);
+    let due = word(desk, 0);
+    tally::verdict(desk, tally::SATD, due, answer == line::signed(due));
 }

@@ -1,9 +1,11 @@
-// The detector's state as it should be, in one list: its 13 numbers, and the bits of its 80 doubles.
+// The detector's state as it should be, on the desk.
 ghost use Prim.Native.Nat.{_≤_};
+use crate::desk;
+use crate::desk::get_at;
+use crate::desk::put_at;
+use crate::desk::word;
 use crate::float;
 use crate::line::NEGATIVE;
-use crate::line::put_word;
-use crate::line::word;
 
 const NUMBERS: usize = 13;
 
@@ -11,33 +13,24 @@ const DOUBLES: usize = 5;
 
 const ENTRIES: usize = 16;
 
-// The number that is the count of entries.
+// The last place of a state, and the number that is the count of entries.
+const LAST: usize = 92;
+
 const COUNT: usize = 12;
 
 // Changes of the state: pairs of a place and a word, to the end of the record.
-pub fn change(due: &mut [u64], words: &[u64], from: usize) -> bool {
-    if words.len() < from {
-        return false;
-    }
-    let left = words.len() - from;
-    let mut is_sound = left % 2 == 0;
+pub fn change(desk: &mut [u64], at: usize) {
+    let left = desk::left(desk, at);
+    desk::expect(desk, left % 2 == 0);
     for k in 0..left / 2 {
-        let at = word(words, from + 2 * k) as usize;
-        is_sound = is_sound & put_word(due, at, word(words, from + 2 * k + 1));
+        let i = desk::capped(desk, desk::word_at(desk, at, 2 * k), LAST);
+        let w = desk::word_at(desk, at, 2 * k + 1);
+        put_at(desk, desk::STATE, i, w);
     }
-    is_sound
 }
 
-// W: changes of the state that no call made
-pub fn state(words: &[u64], due: &mut [u64]) -> bool {
-    if words.len() == 0 {
-        return false;
-    }
-    change(due, words, 0)
-}
-
-// The entries go back by some places, as far as there are entries: there is room for new ones in front.
-fn move_back(due: &mut [u64], by: usize, entries: usize)
+// The entries go back by some, as far as there are entries: there is room for new ones in front.
+fn move_back(desk: &mut [u64], by: usize, entries: usize)
     requires { ⌜ by ≤ 16 ⌝ }
     requires { ⌜ entries ≤ 16 ⌝ }
 {
@@ -45,71 +38,74 @@ fn move_back(due: &mut [u64], by: usize, entries: usize)
     let mut i = entries * DOUBLES;
     while back < i {
         i -= 1;
-        let w = word(due, NUMBERS + i - back);
-        put_word(due, NUMBERS + i, w);
+        let w = get_at(desk, desk::STATE, NUMBERS + i - back);
+        put_at(desk, desk::STATE, NUMBERS + i, w);
     }
+}
+
+// The state after an accepted call: how many entries are new in front, how many there are, changes.
+fn changed(desk: &mut [u64], at: usize) {
+    let by = desk::capped(desk, word(desk, at), ENTRIES);
+    let entries = desk::capped(desk, desk::word_at(desk, at, 1), ENTRIES);
+    move_back(desk, by, entries);
+    put_at(desk, desk::STATE, COUNT, entries as u64);
+    change(desk, std::num::wrapping_add_usize(at, 2));
+}
+
+// The state after a call whose answer stands at `at`: as before where it is refused.
+pub fn after(desk: &mut [u64], at: usize) {
+    let next = std::num::wrapping_add_usize(at, 1);
+    if NEGATIVE <= word(desk, at) {
+        desk::expect_words(desk, next as u64);
+        return;
+    }
+    changed(desk, next);
 }
 
 // The numbers as they are lent: 0 behind those of the state.
-fn number(due: &[u64], i: usize) -> u64 {
-    if i < NUMBERS { word(due, i) } else { 0 }
-}
-
-pub fn lend_numbers(due: &[u64], numbers: &mut [u64]) {
-    for i in 0..numbers.len() {
-        numbers[i] = number(due, i);
+fn number(desk: &[u64], i: usize) -> u64 {
+    if i < NUMBERS {
+        get_at(desk, desk::STATE, i)
+    } else {
+        0
     }
 }
 
-// The bits of a double; 0 behind those of the state.
-fn double(due: &[u64], i: usize) -> u64 {
-    word(due, std::num::wrapping_add_usize(NUMBERS, i))
+// The bits of the doubles as they are lent: 0 behind those of the state.
+fn double(desk: &[u64], i: usize) -> u64 {
+    if i < ENTRIES * DOUBLES {
+        get_at(desk, desk::STATE + NUMBERS, i)
+    } else {
+        0
+    }
 }
 
-pub fn lend_scores(due: &[u64], scores: &mut [f64]) {
+pub fn lend_numbers(desk: &[u64], numbers: &mut [u64]) {
+    for i in 0..numbers.len() {
+        numbers[i] = number(desk, i);
+    }
+}
+
+pub fn lend_scores(desk: &[u64], scores: &mut [f64]) {
     for i in 0..scores.len() {
-        scores[i] = float::of_bits(double(due, i));
+        scores[i] = float::of_bits(double(desk, i));
     }
 }
 
-pub fn same_numbers(due: &[u64], numbers: &[u64]) -> bool {
+pub fn same_numbers(desk: &[u64], numbers: &[u64]) -> bool {
     for i in 0..numbers.len() {
-        if numbers[i] != number(due, i) {
+        if numbers[i] != number(desk, i) {
             return false;
         }
     }
     true
 }
 
-pub fn same_scores(due: &[u64], scores: &[f64]) -> bool {
+pub fn same_scores(desk: &[u64], scores: &[f64]) -> bool {
     for i in 0..scores.len() {
-        if !float::same(scores[i], double(due, i)) {
+        if !float::same(scores[i], double(desk, i)) {
             return false;
         }
     }
     true
-}
-
-// What the record says of the state after an accepted call: how many entries are new in front, how many there are, changes.
-fn changed(words: &[u64], at: usize, due: &mut [u64]) -> bool {
-    let by = word(words, at) as usize;
-    let entries = word(words, std::num::wrapping_add_usize(at, 1)) as usize;
-    if ENTRIES < by {
-        return false;
-    }
-    if ENTRIES < entries {
-        return false;
-    }
-    move_back(due, by, entries);
-    put_word(due, COUNT, entries as u64);
-    change(due, words, std::num::wrapping_add_usize(at, 2))
-}
-
-// The state after a call: as before where it is refused.
-pub fn after(words: &[u64], at: usize, due: &mut [u64]) -> bool {
-    let next = std::num::wrapping_add_usize(at, 1);
-    if NEGATIVE <= word(words, at) {
-        return words.len() == next;
-    }
-    changed(words, next, due)
 }

@@ -1,171 +1,163 @@
-// Records on the detector: fresh ones and steps.
+// Records on the detector: its state, fresh ones, steps.
+use crate::desk;
+use crate::desk::word;
 use crate::float;
 use crate::line;
-use crate::line::word;
 use crate::state;
 use crate::tally;
 
 // Room for lengths that no state has.
 const ROOM: usize = 96;
 
-// The answer where a record asks for more room than that: no call answers so.
-const NO_ROOM: i64 = -100;
+// The most measures of a list, and the most places of the pool.
+const LIST: usize = 32;
 
-// The detector of a record `F`, in its places.
-fn made(words: &[u64], numbers: &mut [u64], scores: &mut [f64]) -> i64 {
+const POOL: usize = 512;
+
+// W: changes of the state that no call made
+pub fn state(desk: &mut [u64]) {
+    state::change(desk, 0);
+}
+
+fn made(desk: &[u64], numbers: &mut [u64], scores: &mut [f64]) -> i64 {
+    let width = word(desk, 0) as usize;
+    let height = word(desk, 1) as usize;
+    let depth = line::half(word(desk, 2));
+    let lookahead = word(desk, 3) as usize;
+    let mode = line::half(word(desk, 4));
     brinepulley::brine_detector_fresh(
-        word(words, 0) as usize,
-        word(words, 1) as usize,
-        line::half(word(words, 2)),
-        word(words, 3) as usize,
-        line::half(word(words, 4)),
-        word(words, 5),
-        word(words, 6),
+        width,
+        height,
+        depth,
+        lookahead,
+        mode,
+        word(desk, 5),
+        word(desk, 6),
         numbers,
         scores,
     )
 }
 
-// The same in places that are as long as the record says.
-fn made_in(words: &[u64], numbers: &mut [u64], scores: &mut [f64]) -> i64 {
-    let n = word(words, 7) as usize;
-    let s = word(words, 8) as usize;
-    if numbers.len() < n {
-        return NO_ROOM;
-    }
-    if scores.len() < s {
-        return NO_ROOM;
-    }
-    made(words, &mut numbers[..n], &mut scores[..s])
+// What is lent of the places is as long as the record says.
+fn made_in(desk: &mut [u64], numbers: &mut [u64], scores: &mut [f64]) -> i64 {
+    let n = desk::capped(desk, word(desk, 7), numbers.len());
+    let s = desk::capped(desk, word(desk, 8), scores.len());
+    made(desk, &mut numbers[..n], &mut scores[..s])
 }
 
-fn fresh_over(
-    words: &[u64],
-    due: &mut [u64],
-    numbers: &mut [u64],
-    scores: &mut [f64],
-    tally: &mut [u64],
-) -> bool {
-    state::lend_numbers(due, numbers);
-    state::lend_scores(due, scores);
-    let answer = made_in(words, numbers, scores);
-    let is_sound = state::change(due, words, 10);
-    let is_same = state::same_numbers(due, numbers) & state::same_scores(due, scores);
-    let answer_due = word(words, 9);
+// The places hold the state.
+fn fresh_in(desk: &mut [u64], numbers: &mut [u64], scores: &mut [f64]) {
+    state::lend_numbers(desk, numbers);
+    state::lend_scores(desk, scores);
+    let answer = made_in(desk, numbers, scores);
+    state::change(desk, 10);
+    let is_same = state::same_numbers(desk, numbers) & state::same_scores(desk, scores);
+    let due = word(desk, 9);
     tally::verdict(
-        tally,
+        desk,
         tally::FRESH,
-        answer_due,
-        is_same & (answer == line::signed(answer_due)),
+        due,
+        is_same & (answer == line::signed(due)),
     );
-    is_sound
 }
 
 // F: width, height, depth, lookahead, mode, min, max, the lengths of the two places, answer, changes of the state
-pub fn fresh(words: &[u64], due: &mut [u64], tally: &mut [u64]) -> bool {
-    if words.len() < 10 {
-        return false;
-    }
+pub fn fresh(desk: &mut [u64]) {
     let mut numbers = [0u64; ROOM];
     let mut scores = [0.0f64; ROOM];
-    fresh_over(words, due, &mut numbers[..], &mut scores[..], tally)
+    fresh_in(desk, &mut numbers[..], &mut scores[..]);
 }
 
-// A list of the pool: where it lies, and where its record goes on.
-pub struct Span {
-    pub start: usize,
-    pub len: usize,
-    pub next: usize,
-    pub sound: bool,
-}
-
-// The values of a record from a place on, put into the pool.
-fn put_values(pool: &mut [f64], at: usize, words: &[u64], from: usize, count: usize) -> bool {
+// Values of the record, put into the pool.
+fn put_values(desk: &mut [u64], place: usize, at: usize, count: usize) {
     for i in 0..count {
-        let place = std::num::wrapping_add_usize(at, i);
-        if pool.len() <= place {
-            return false;
-        }
-        pool[place] = float::of_bits(word(words, std::num::wrapping_add_usize(from, i)));
+        let w = desk::word_at(desk, at, i);
+        desk::put_at(desk, place, i, w);
     }
-    true
 }
 
-// Whether a part lies within the pool.
-fn lies(pool: &[f64], start: usize, len: usize) -> bool {
-    if pool.len() < start {
-        return false;
+fn put_real(lists: &mut [f64], i: usize, x: f64) {
+    if i < lists.len() {
+        lists[i] = x;
     }
-    len <= pool.len() - start
 }
 
-// A part of the pool; nothing where it would go past the end.
-fn part(pool: &[f64], start: usize, len: usize) -> &[f64] {
-    if pool.len() < start {
-        return &pool[..0];
+// Measures of the pool, put into the lists.
+fn load(desk: &[u64], place: usize, lists: &mut [f64], to: usize) {
+    for i in 0..LIST {
+        let x = float::of_bits(desk::get_at(desk, place, i));
+        put_real(lists, std::num::wrapping_add_usize(to, i), x);
     }
-    if pool.len() - start < len {
-        return &pool[..0];
-    }
-    &pool[start..start + len]
 }
 
-// A list in a record: where it starts in the pool, its length, how many of its last values are new there, those.
-fn listed(words: &[u64], at: usize, pool: &mut [f64]) -> Span {
-    let start = word(words, at) as usize;
-    let len = word(words, std::num::wrapping_add_usize(at, 1)) as usize;
-    let new = word(words, std::num::wrapping_add_usize(at, 2)) as usize;
+// A list of a record: where it starts in the pool, its length, how many of its last values are new there, those. Where the
+// record goes on.
+fn take_list(desk: &mut [u64], at: usize, lists: &mut [f64], to: usize) -> usize {
+    let start = desk::capped(desk, word(desk, at), POOL - LIST);
+    let len = desk::capped(desk, desk::word_at(desk, at, 1), LIST);
+    let new = desk::capped(desk, desk::word_at(desk, at, 2), len);
     let from = std::num::wrapping_add_usize(at, 3);
-    let place = std::num::wrapping_sub_usize(std::num::wrapping_add_usize(start, len), new);
-    let is_put = put_values(pool, place, words, from, new);
-    Span {
-        start,
-        len,
-        next: std::num::wrapping_add_usize(from, new),
-        sound: is_put & lies(pool, start, len),
-    }
+    put_values(desk, desk::POOL + start + (len - new), from, new);
+    load(desk, desk::POOL + start, lists, to);
+    std::num::wrapping_add_usize(from, new)
 }
 
-// The call of a record `C`.
+// A list whose length stands in the record; nothing where it would be too long.
+fn list<'a>(desk: &[u64], at: usize, lists: &'a [f64], from: usize) -> &'a [f64] {
+    let len = desk::word_at(desk, at, 1) as usize;
+    if lists.len() < from {
+        return &lists[..0];
+    }
+    if lists.len() - from < len {
+        return &lists[..0];
+    }
+    &lists[from..from + len]
+}
+
 fn stepped(
-    words: &[u64],
+    desk: &[u64],
     numbers: &mut [u64],
     scores: &mut [f64],
     inter: &[f64],
     importance: &[f64],
     threshold: &[f64],
 ) -> i64 {
+    let set = word(desk, 2) as usize;
     brinepulley::brine_detector_step(
         numbers,
         scores,
-        word(words, 2) as usize,
-        word(words, 3),
-        word(words, 4),
+        set,
+        word(desk, 3),
+        word(desk, 4),
         inter,
         importance,
         threshold,
     )
 }
 
-// The same in places that are as long as the record says.
+// A cut is counted: behind the desk nothing is.
+fn count_cut(desk: &mut [u64], due: u64) {
+    let place = if (due == 1) | (due == 3) {
+        desk::CUT
+    } else {
+        desk::PLACES
+    };
+    desk::add(desk, place);
+}
+
+// What is lent of the places is as long as the record says.
 fn stepped_in(
-    words: &[u64],
+    desk: &mut [u64],
     numbers: &mut [u64],
     scores: &mut [f64],
     inter: &[f64],
     importance: &[f64],
     threshold: &[f64],
 ) -> i64 {
-    let n = word(words, 0) as usize;
-    let s = word(words, 1) as usize;
-    if numbers.len() < n {
-        return NO_ROOM;
-    }
-    if scores.len() < s {
-        return NO_ROOM;
-    }
+    let n = desk::capped(desk, word(desk, 0), numbers.len());
+    let s = desk::capped(desk, word(desk, 1), scores.len());
     stepped(
-        words,
+        desk,
         &mut numbers[..n],
         &mut scores[..s],
         inter,
@@ -174,69 +166,80 @@ fn stepped_in(
     )
 }
 
-// The call, what it answered and what it wrote. The answer stands at `at`, and behind it the state after the call.
-fn step_over(
-    words: &[u64],
+// What the call answered and wrote. Its answer stands at `at`, and behind it the state after the call.
+fn compare(desk: &mut [u64], at: usize, answer: i64, numbers: &[u64], scores: &[f64]) {
+    state::after(desk, at);
+    let is_same = state::same_numbers(desk, numbers) & state::same_scores(desk, scores);
+    let due = word(desk, at);
+    count_cut(desk, due);
+    tally::verdict(
+        desk,
+        tally::STEP,
+        due,
+        is_same & (answer == line::signed(due)),
+    );
+}
+
+// The places hold the state.
+fn step_in(
+    desk: &mut [u64],
     at: usize,
+    numbers: &mut [u64],
+    scores: &mut [f64],
     inter: &[f64],
     importance: &[f64],
     threshold: &[f64],
-    due: &mut [u64],
-    numbers: &mut [u64],
-    scores: &mut [f64],
-    tally: &mut [u64],
-) -> bool {
-    state::lend_numbers(due, numbers);
-    state::lend_scores(due, scores);
-    let answer = stepped_in(words, numbers, scores, inter, importance, threshold);
-    let is_sound = state::after(words, at, due);
-    let is_same = state::same_numbers(due, numbers) & state::same_scores(due, scores);
-    let answer_due = word(words, at);
-    tally::step(
-        tally,
-        answer_due,
-        is_same & (answer == line::signed(answer_due)),
-    );
-    is_sound
+) {
+    state::lend_numbers(desk, numbers);
+    state::lend_scores(desk, scores);
+    let answer = stepped_in(desk, numbers, scores, inter, importance, threshold);
+    compare(desk, at, answer, numbers, scores);
 }
 
-// The call over three parts of the pool.
-fn step_with(
-    words: &[u64],
-    at: usize,
-    pool: &[f64],
-    a: Span,
-    b: Span,
-    c: Span,
-    due: &mut [u64],
-    tally: &mut [u64],
-) -> bool {
-    let inter = part(pool, a.start, a.len);
-    let importance = part(pool, b.start, b.len);
-    let threshold = part(pool, c.start, c.len);
-    let mut numbers = [0u64; ROOM];
-    let mut scores = [0.0f64; ROOM];
-    step_over(
-        words,
-        at,
+// Where the second list stands in a record, the third, and the answer.
+struct Places {
+    second: usize,
+    third: usize,
+    answer: usize,
+}
+
+// The record's three lists.
+fn take_lists(desk: &mut [u64], lists: &mut [f64]) -> Places {
+    let second = take_list(desk, 5, lists, 0);
+    let third = take_list(desk, second, lists, LIST);
+    let answer = take_list(desk, third, lists, 2 * LIST);
+    Places {
+        second,
+        third,
+        answer,
+    }
+}
+
+// The call over the lists.
+fn step_with(desk: &mut [u64], p: Places, numbers: &mut [u64], scores: &mut [f64], lists: &[f64]) {
+    let inter = list(desk, 5, lists, 0);
+    let importance = list(desk, p.second, lists, LIST);
+    let threshold = list(desk, p.third, lists, 2 * LIST);
+    step_in(
+        desk,
+        p.answer,
+        numbers,
+        scores,
         inter,
         importance,
         threshold,
-        due,
-        &mut numbers[..],
-        &mut scores[..],
-        tally,
-    )
+    );
+}
+
+fn step_over(desk: &mut [u64], numbers: &mut [u64], scores: &mut [f64], lists: &mut [f64]) {
+    let p = take_lists(desk, lists);
+    step_with(desk, p, numbers, scores, lists);
 }
 
 // C: the lengths of the two places, set length, frame, previous keyframe, three lists, answer; then the state after
-pub fn step(words: &[u64], pool: &mut [f64], due: &mut [u64], tally: &mut [u64]) -> bool {
-    let a = listed(words, 5, pool);
-    let b = listed(words, a.next, pool);
-    let c = listed(words, b.next, pool);
-    let at = c.next;
-    if a.sound & b.sound & c.sound & (at < words.len()) {
-        return step_with(words, at, pool, a, b, c, due, tally);
-    }
-    false
+pub fn step(desk: &mut [u64]) {
+    let mut numbers = [0u64; ROOM];
+    let mut scores = [0.0f64; ROOM];
+    let mut lists = [0.0f64; ROOM];
+    step_over(desk, &mut numbers[..], &mut scores[..], &mut lists[..]);
 }

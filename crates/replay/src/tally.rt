@@ -1,4 +1,7 @@
-// What was compared, and what failed. The tally is a list of counts.
+// What was compared, and what failed.
+use crate::desk;
+use crate::desk::get;
+use crate::drawn;
 use crate::line::NEGATIVE;
 
 const OUT: i32 = 1;
@@ -6,83 +9,54 @@ const OUT: i32 = 1;
 // No more failures than these are written out.
 const SHOWN: u64 = 20;
 
-// The number of the line at hand.
-const LINE: usize = 0;
+// What is compared.
+pub const SCALE: usize = 0;
 
-const PASSED: usize = 1;
+pub const DIFFERENCE: usize = 1;
 
-const FAILED: usize = 2;
+pub const TOTAL: usize = 2;
 
-const CUT: usize = 3;
+pub const DELTA: usize = 3;
 
-// 1 once the record that ends the list was read.
-pub const ENDED: usize = 4;
+pub const IMPORTANCE: usize = 4;
 
-// What is compared: a place of the tally each.
-pub const SCALE: usize = 5;
+pub const INTRA: usize = 5;
 
-pub const DIFFERENCE: usize = 6;
+pub const THRESHOLD: usize = 6;
 
-pub const TOTAL: usize = 7;
+pub const TRANSFORM_4: usize = 7;
 
-pub const DELTA: usize = 8;
+pub const TRANSFORM_8: usize = 8;
 
-pub const IMPORTANCE: usize = 9;
+pub const SATD: usize = 9;
 
-pub const INTRA: usize = 10;
+pub const FRESH: usize = 10;
 
-pub const THRESHOLD: usize = 11;
+pub const STEP: usize = 11;
 
-pub const TRANSFORM_4: usize = 12;
+const KINDS: usize = 12;
 
-pub const TRANSFORM_8: usize = 13;
+// A name is so long.
+const NAME: usize = 17;
 
-pub const SATD: usize = 14;
-
-pub const FRESH: usize = 15;
-
-const STEP: usize = 16;
-
-// Then the refusals, a place for each number.
-const REFUSAL: usize = 17;
-
+// Refusals have the numbers below this.
 const NUMBERS: usize = 12;
 
-// How many places a tally has.
-pub const PLACES: usize = 29;
-
-pub fn put(text: &[u8]) {
+fn put(text: &[u8]) {
     io::write_all(OUT, text);
 }
 
-pub fn get(tally: &[u64], i: usize) -> u64 {
-    if i < tally.len() { tally[i] } else { 0 }
-}
-
-pub fn add(tally: &mut [u64], i: usize) {
-    if i < tally.len() {
-        let n = tally[i];
-        if n < 18446744073709551615 {
-            tally[i] = n + 1;
-        }
-    }
+fn put_number(n: u64) {
+    io::print_decimal(OUT, n);
 }
 
 fn put_name(kind: usize) {
-    match kind {
-        5 => put(b"scale factor"),
-        6 => put(b"plane difference"),
-        7 => put(b"importance total"),
-        8 => put(b"delta"),
-        9 => put(b"importance"),
-        10 => put(b"intra costs"),
-        11 => put(b"threshold"),
-        12 => put(b"transform of 4x4"),
-        13 => put(b"transform of 8x8"),
-        14 => put(b"SATD"),
-        15 => put(b"fresh detector"),
-        _ => put(b"step"),
-    }
+    let at = kind % KINDS * NAME;
+    put(drawn::part(
+        b"scale factor     plane difference importance total delta            importance       intra costs      threshold        transform of 4x4 transform of 8x8 SATD             fresh detector   step             ",
+        at,
+        NAME,
+    ));
 }
 
 // A word as the list has it.
@@ -95,103 +69,82 @@ fn put_word(w: u64) {
     }
 }
 
-// Whether a failure is written out: it is counted here.
-fn fails(tally: &mut [u64]) -> bool {
-    add(tally, FAILED);
-    if SHOWN < get(tally, FAILED) {
+// A failure is counted. Whether it is written out: the number of its line is.
+fn fails(desk: &mut [u64]) -> bool {
+    desk::add(desk, desk::FAILED);
+    if SHOWN < get(desk, desk::FAILED) {
         return false;
     }
     put(b"line ");
-    io::print_decimal(OUT, get(tally, LINE));
+    put_number(get(desk, desk::LINE));
     put(b": ");
     true
 }
 
 // Says what is wrong with the list itself, unless all is well.
-pub fn expect(tally: &mut [u64], is_well: bool, what: &[u8]) {
+pub fn expect(desk: &mut [u64], is_well: bool, what: &[u8]) {
     if is_well {
         return;
     }
-    if fails(tally) {
+    if fails(desk) {
         put(what);
         put(b"\n");
     }
 }
 
-// The next line.
-pub fn next(tally: &mut [u64]) {
-    add(tally, LINE);
-}
-
-// The number of the line at hand.
-pub fn line(tally: &[u64]) -> u64 {
-    get(tally, LINE)
-}
-
 // Where a call is counted: by its kind, or by the number of its refusal.
 fn place(kind: usize, due: u64) -> usize {
     if due < NEGATIVE {
-        return kind;
+        return desk::KIND + kind % KINDS;
     }
-    let number = (due - NEGATIVE) as usize;
-    if number < NUMBERS {
-        return REFUSAL + number;
-    }
-    REFUSAL
+    desk::REFUSAL + (due - NEGATIVE) as usize % NUMBERS
 }
 
 // A call was compared: what it should answer, and whether it did, and wrote what it should.
-pub fn verdict(tally: &mut [u64], kind: usize, due: u64, ok: bool) {
-    add(tally, place(kind, due));
-    if ok {
-        add(tally, PASSED);
+pub fn verdict(desk: &mut [u64], kind: usize, due: u64, is_same: bool) {
+    desk::add(desk, place(kind, due));
+    if is_same {
+        desk::add(desk, desk::PASSED);
         return;
     }
-    if fails(tally) {
+    if fails(desk) {
         put_name(kind);
-        put(b": due ");
+        put(b"due ");
         put_word(due);
         put(b"\n");
     }
 }
 
-// A step was compared. Cuts are counted too: behind the tally nothing is.
-pub fn step(tally: &mut [u64], due: u64, ok: bool) {
-    let place = if (due == 1) | (due == 3) { CUT } else { PLACES };
-    add(tally, place);
-    verdict(tally, STEP, due, ok);
-}
-
-// A line with a count.
-fn put_count(tally: &[u64], i: usize) {
-    put(b": ");
-    io::print_decimal(OUT, get(tally, i));
+// The number that stands at a place, on a line.
+fn put_count(desk: &[u64], i: usize) {
+    put_number(get(desk, i));
     put(b"\n");
 }
 
-fn put_kinds(tally: &[u64]) {
-    for kind in SCALE..REFUSAL {
+fn put_kinds(desk: &[u64]) {
+    for kind in 0..KINDS {
         put_name(kind);
-        put_count(tally, kind);
+        put_count(desk, desk::KIND + kind);
     }
 }
 
-fn put_refusals(tally: &[u64]) {
+fn put_refusals(desk: &[u64]) {
     for number in 1..NUMBERS {
         put(b"refusal ");
-        io::print_decimal(OUT, number as u64);
-        put_count(tally, REFUSAL + number);
+        put_number(number as u64);
+        put(b": ");
+        put_count(desk, desk::REFUSAL + number);
     }
 }
 
 // How many of each were compared, and the line that says whether all passed.
-pub fn summary(tally: &[u64]) {
-    put_kinds(tally);
-    put(b"cut");
-    put_count(tally, CUT);
-    put_refusals(tally);
-    io::print_decimal(OUT, get(tally, PASSED));
+pub fn summary(desk: &[u64]) {
+    put_kinds(desk);
+    put(b"cuts: ");
+    put_count(desk, desk::CUT);
+    put_refusals(desk);
+    put_number(get(desk, desk::PASSED));
     put(b" passed, ");
-    io::print_decimal(OUT, get(tally, FAILED));
+    put_number(get(desk, desk::FAILED));
     put(b" failed\n");
 }

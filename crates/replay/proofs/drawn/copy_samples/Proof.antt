@@ -1,4 +1,4 @@
--- `replay::drawn::copy_samples` is safe and ends. The plane keeps its length. The measure is how many samples are left. Assumes nothing.
+-- `replay::drawn::copy_samples` is safe and ends. The list keeps its length. The measure is how many samples are left. Assumes nothing.
 use mathlib.Core.Path.{_≡_}
 use Prim.Native.Nat.{_-_}
 use lib.ListN.{length}
@@ -7,19 +7,16 @@ use Rattle.replay.proofs.drawn.copy_samples.Statement.{statement}
 use Rattle.replay.proofs.drawn.copy_samples.Tie as tie
 
 abbrev Inv-loop : tie.InvT-loop
-Inv-loop from to₀ i₀ i-end to i = (i-end ≡ length from) × (length to ≡ length to₀)
+Inv-loop samples from to₀ i₀ i-end to i = (i-end ≡ length to) × (length to ≡ length to₀)
 
 abbrev μ-loop : tie.MeasureT-loop
-μ-loop from to₀ i₀ i-end to i = i-end - i
-
-returns : tie.Need-returns Inv-loop μ-loop
-returns c = search needs
+μ-loop samples from to₀ i₀ i-end to i = i-end - i
 
 loop-holds : tie.Need-loop-holds Inv-loop μ-loop
 loop-holds c = search needs
 
-shared-slice-read-to : tie.Need-shared-slice-read-to Inv-loop μ-loop
-shared-slice-read-to c = search needs
+sample-requires : tie.Need-sample-requires Inv-loop μ-loop
+sample-requires c κs = search needs
 
 slice-write-to : tie.Need-slice-write-to Inv-loop μ-loop
 slice-write-to c = search needs
@@ -36,8 +33,8 @@ loop-again c = search needs
 same-length : tie.Need-same-length Inv-loop μ-loop
 same-length c = search needs
 
-returns-2 : tie.Need-returns-2 Inv-loop μ-loop
-returns-2 c = search needs
+returns : tie.Need-returns Inv-loop μ-loop
+returns c = search needs
 
 pub copy-samples-spec : {M : Type 1} → statement M
 copy-samples-spec =
@@ -45,12 +42,11 @@ copy-samples-spec =
     (tie.spec
     Inv-loop
     μ-loop
-    returns
     loop-holds
-    shared-slice-read-to
+    sample-requires
     slice-write-to
     add-i
     loop-less
     loop-again
     same-length
-    returns-2)
+    returns)

@@ -1,58 +1,55 @@
--- `replay::drawn::put_runs` is safe and ends. The plane keeps its length. The measure is how many runs are left. Assumes nothing.
+-- `replay::drawn::put_runs` is safe and ends. The lists keep their lengths. The measure is how many runs are left. Assumes nothing.
 use mathlib.Core.Path.{_≡_}
-use Prim.Native.Nat.{_-_}
+use Prim.Native.Nat.{_-_, _≤_}
 use lib.ListN.{length}
 use borrow.Author.Needs.{needs}
 use Rattle.replay.proofs.drawn.put_runs.Statement.{statement}
 use Rattle.replay.proofs.drawn.put_runs.Tie as tie
 
 abbrev Inv-loop : tie.InvT-loop
-Inv-loop samples₀ words from left is-sound₀ k₀ k-end samples is-sound k = length samples ≡ length samples₀
+Inv-loop desk₀ samples₀ at left k₀ k-end desk samples k = (k-end ≤ 256) × (length desk ≡ length desk₀) × (length samples ≡ length samples₀)
 
 abbrev μ-loop : tie.MeasureT-loop
-μ-loop samples₀ words from left is-sound₀ k₀ k-end samples is-sound k = k-end - k
+μ-loop desk₀ samples₀ at left k₀ k-end desk samples k = k-end - k
 
-returns : tie.Need-returns Inv-loop μ-loop
-returns c = search needs
+left-requires : tie.Need-left-requires Inv-loop μ-loop
+left-requires c κs = search needs
 
-sub-left : tie.Need-sub-left Inv-loop μ-loop
-sub-left c = search needs
+expect-requires : tie.Need-expect-requires Inv-loop μ-loop
+expect-requires c κs = search needs
 
 loop-holds : tie.Need-loop-holds Inv-loop μ-loop
 loop-holds c = search needs
 
-mul-word : tie.Need-mul-word Inv-loop μ-loop
-mul-word c = search needs
+mul-word-at : tie.Need-mul-word-at Inv-loop μ-loop
+mul-word-at c = search needs
 
-add-word : tie.Need-add-word Inv-loop μ-loop
-add-word c = search needs
+word-at-requires : tie.Need-word-at-requires Inv-loop μ-loop
+word-at-requires c κs = search needs
 
-word-requires : tie.Need-word-requires Inv-loop μ-loop
-word-requires c κs = search needs
+capped-requires : tie.Need-capped-requires Inv-loop μ-loop
+capped-requires c κs = search needs
 
-mul-word-2 : tie.Need-mul-word-2 Inv-loop μ-loop
-mul-word-2 c = search needs
+mul-word-at-2 : tie.Need-mul-word-at-2 Inv-loop μ-loop
+mul-word-at-2 c = search needs
 
-add-word-2 : tie.Need-add-word-2 Inv-loop μ-loop
-add-word-2 c = search needs
+add-word-at : tie.Need-add-word-at Inv-loop μ-loop
+add-word-at c = search needs
 
-add-word-3 : tie.Need-add-word-3 Inv-loop μ-loop
-add-word-3 c = search needs
+word-at-requires-2 : tie.Need-word-at-requires-2 Inv-loop μ-loop
+word-at-requires-2 c κs = search needs
 
-word-requires-2 : tie.Need-word-requires-2 Inv-loop μ-loop
-word-requires-2 c κs = search needs
+capped-requires-2 : tie.Need-capped-requires-2 Inv-loop μ-loop
+capped-requires-2 c κs = search needs
 
-mul-word-3 : tie.Need-mul-word-3 Inv-loop μ-loop
-mul-word-3 c = search needs
+mul-word-at-3 : tie.Need-mul-word-at-3 Inv-loop μ-loop
+mul-word-at-3 c = search needs
 
-add-word-4 : tie.Need-add-word-4 Inv-loop μ-loop
-add-word-4 c = search needs
+add-word-at-2 : tie.Need-add-word-at-2 Inv-loop μ-loop
+add-word-at-2 c = search needs
 
-add-word-5 : tie.Need-add-word-5 Inv-loop μ-loop
-add-word-5 c = search needs
-
-word-requires-3 : tie.Need-word-requires-3 Inv-loop μ-loop
-word-requires-3 c κs = search needs
+word-at-requires-3 : tie.Need-word-at-requires-3 Inv-loop μ-loop
+word-at-requires-3 c κs = search needs
 
 put-run-requires : tie.Need-put-run-requires Inv-loop μ-loop
 put-run-requires c κs = search needs
@@ -69,8 +66,11 @@ loop-again c = search needs
 same-length : tie.Need-same-length Inv-loop μ-loop
 same-length c = search needs
 
-returns-2 : tie.Need-returns-2 Inv-loop μ-loop
-returns-2 c = search needs
+same-length-2 : tie.Need-same-length-2 Inv-loop μ-loop
+same-length-2 c = search needs
+
+returns : tie.Need-returns Inv-loop μ-loop
+returns c = search needs
 
 pub put-runs-spec : {M : Type 1} → statement M
 put-runs-spec =
@@ -78,23 +78,23 @@ put-runs-spec =
     (tie.spec
     Inv-loop
     μ-loop
-    returns
-    sub-left
+    left-requires
+    expect-requires
     loop-holds
-    mul-word
-    add-word
-    word-requires
-    mul-word-2
-    add-word-2
-    add-word-3
-    word-requires-2
-    mul-word-3
-    add-word-4
-    add-word-5
-    word-requires-3
+    mul-word-at
+    word-at-requires
+    capped-requires
+    mul-word-at-2
+    add-word-at
+    word-at-requires-2
+    capped-requires-2
+    mul-word-at-3
+    add-word-at-2
+    word-at-requires-3
     put-run-requires
     add-k
     loop-less
     loop-again
     same-length
-    returns-2)
+    same-length-2
+    returns)

@@ -7,16 +7,25 @@ use Rattle.replay.proofs.lists.draw.Statement.{statement}
 use Rattle.replay.proofs.lists.draw.Tie as tie
 
 abbrev Inv-loop : tie.InvT-loop
-Inv-loop list₀ low span seed s₀ i₀ i-end list s i = (i-end ≡ length list) × (length list ≡ length list₀)
+Inv-loop desk list₀ s₀ i₀ i-end list s i = (i-end ≡ length list) × (length list ≡ length list₀)
 
 abbrev μ-loop : tie.MeasureT-loop
-μ-loop list₀ low span seed s₀ i₀ i-end list s i = i-end - i
+μ-loop desk list₀ s₀ i₀ i-end list s i = i-end - i
+
+word-requires : tie.Need-word-requires Inv-loop μ-loop
+word-requires c κs = search needs
 
 loop-holds : tie.Need-loop-holds Inv-loop μ-loop
 loop-holds c = search needs
 
 next-requires : tie.Need-next-requires Inv-loop μ-loop
 next-requires c κs = search needs
+
+word-requires-2 : tie.Need-word-requires-2 Inv-loop μ-loop
+word-requires-2 c κs = search needs
+
+word-requires-3 : tie.Need-word-requires-3 Inv-loop μ-loop
+word-requires-3 c κs = search needs
 
 below-requires : tie.Need-below-requires Inv-loop μ-loop
 below-requires c κs = search needs
@@ -48,8 +57,11 @@ draw-spec =
     (tie.spec
     Inv-loop
     μ-loop
+    word-requires
     loop-holds
     next-requires
+    word-requires-2
+    word-requires-3
     below-requires
     plus-requires
     put-entry-requires

@@ -7,19 +7,16 @@ use Rattle.replay.proofs.lists.load_costs.Statement.{statement}
 use Rattle.replay.proofs.lists.load_costs.Tie as tie
 
 abbrev Inv-loop : tie.InvT-loop
-Inv-loop costs₀ words from i₀ i-end costs i = (i-end ≡ length costs) × (length costs ≡ length costs₀)
+Inv-loop desk costs₀ i₀ i-end costs i = (i-end ≡ length costs) × (length costs ≡ length costs₀)
 
 abbrev μ-loop : tie.MeasureT-loop
-μ-loop costs₀ words from i₀ i-end costs i = i-end - i
+μ-loop desk costs₀ i₀ i-end costs i = i-end - i
 
 loop-holds : tie.Need-loop-holds Inv-loop μ-loop
 loop-holds c = search needs
 
-wrapping-add-usize-requires : tie.Need-wrapping-add-usize-requires Inv-loop μ-loop
-wrapping-add-usize-requires c κs = search needs
-
-word-requires : tie.Need-word-requires Inv-loop μ-loop
-word-requires c κs = search needs
+word-at-requires : tie.Need-word-at-requires Inv-loop μ-loop
+word-at-requires c κs = search needs
 
 half-requires : tie.Need-half-requires Inv-loop μ-loop
 half-requires c κs = search needs
@@ -52,8 +49,7 @@ load-costs-spec =
     Inv-loop
     μ-loop
     loop-holds
-    wrapping-add-usize-requires
-    word-requires
+    word-at-requires
     half-requires
     mul-costs
     slice-write-costs

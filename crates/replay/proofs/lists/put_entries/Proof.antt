@@ -1,4 +1,4 @@
--- `replay::lists::put_entries` is safe and ends. The list keeps its length. The measure is how many pairs are left. Assumes nothing.
+-- `replay::lists::put_entries` is safe and ends. The lists keep their lengths. The measure is how many pairs are left. Assumes nothing.
 use mathlib.Core.Path.{_≡_}
 use Prim.Native.Nat.{_-_}
 use lib.ListN.{length}
@@ -7,28 +7,28 @@ use Rattle.replay.proofs.lists.put_entries.Statement.{statement}
 use Rattle.replay.proofs.lists.put_entries.Tie as tie
 
 abbrev Inv-loop : tie.InvT-loop
-Inv-loop list₀ words from pairs is-sound₀ k₀ list is-sound k = length list ≡ length list₀
+Inv-loop desk₀ list₀ pairs k₀ desk list k = (length desk ≡ length desk₀) × (length list ≡ length list₀)
 
 abbrev μ-loop : tie.MeasureT-loop
-μ-loop list₀ words from pairs is-sound₀ k₀ list is-sound k = pairs - k
+μ-loop desk₀ list₀ pairs k₀ desk list k = pairs - k
 
 loop-holds : tie.Need-loop-holds Inv-loop μ-loop
 loop-holds c = search needs
 
-wrapping-add-usize-requires : tie.Need-wrapping-add-usize-requires Inv-loop μ-loop
-wrapping-add-usize-requires c κs = search needs
+add-word-at : tie.Need-add-word-at Inv-loop μ-loop
+add-word-at c = search needs
 
-wrapping-add-usize-requires-2 : tie.Need-wrapping-add-usize-requires-2 Inv-loop μ-loop
-wrapping-add-usize-requires-2 c κs = search needs
+word-at-requires : tie.Need-word-at-requires Inv-loop μ-loop
+word-at-requires c κs = search needs
 
-wrapping-add-usize-requires-3 : tie.Need-wrapping-add-usize-requires-3 Inv-loop μ-loop
-wrapping-add-usize-requires-3 c κs = search needs
+capped-requires : tie.Need-capped-requires Inv-loop μ-loop
+capped-requires c κs = search needs
 
-word-requires : tie.Need-word-requires Inv-loop μ-loop
-word-requires c κs = search needs
+add-word-at-2 : tie.Need-add-word-at-2 Inv-loop μ-loop
+add-word-at-2 c = search needs
 
-word-requires-2 : tie.Need-word-requires-2 Inv-loop μ-loop
-word-requires-2 c κs = search needs
+word-at-requires-2 : tie.Need-word-at-requires-2 Inv-loop μ-loop
+word-at-requires-2 c κs = search needs
 
 put-entry-requires : tie.Need-put-entry-requires Inv-loop μ-loop
 put-entry-requires c κs = search needs
@@ -45,6 +45,9 @@ loop-again c = search needs
 same-length : tie.Need-same-length Inv-loop μ-loop
 same-length c = search needs
 
+same-length-2 : tie.Need-same-length-2 Inv-loop μ-loop
+same-length-2 c = search needs
+
 returns : tie.Need-returns Inv-loop μ-loop
 returns c = search needs
 
@@ -55,14 +58,15 @@ put-entries-spec =
     Inv-loop
     μ-loop
     loop-holds
-    wrapping-add-usize-requires
-    wrapping-add-usize-requires-2
-    wrapping-add-usize-requires-3
-    word-requires
-    word-requires-2
+    add-word-at
+    word-at-requires
+    capped-requires
+    add-word-at-2
+    word-at-requires-2
     put-entry-requires
     add-k
     loop-less
     loop-again
     same-length
+    same-length-2
     returns)

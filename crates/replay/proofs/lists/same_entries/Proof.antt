@@ -7,31 +7,28 @@ use Rattle.replay.proofs.lists.same_entries.Statement.{statement}
 use Rattle.replay.proofs.lists.same_entries.Tie as tie
 
 abbrev Inv-loop : tie.InvT-loop
-Inv-loop list words from i₀ i-end i = i-end ≡ length list
+Inv-loop desk list at i₀ i-end i = i-end ≡ length list
 
 abbrev μ-loop : tie.MeasureT-loop
-μ-loop list words from i₀ i-end i = i-end - i
+μ-loop desk list at i₀ i-end i = i-end - i
 
 loop-holds : tie.Need-loop-holds Inv-loop μ-loop
 loop-holds c = search needs
 
-wrapping-add-usize-requires : tie.Need-wrapping-add-usize-requires Inv-loop μ-loop
-wrapping-add-usize-requires c κs = search needs
+mul-wide : tie.Need-mul-wide Inv-loop μ-loop
+mul-wide c = search needs
 
-word-requires : tie.Need-word-requires Inv-loop μ-loop
-word-requires c κs = search needs
+shared-slice-copy-out-wide : tie.Need-shared-slice-copy-out-wide Inv-loop μ-loop
+shared-slice-copy-out-wide c = search needs
+
+wide-requires : tie.Need-wide-requires Inv-loop μ-loop
+wide-requires c κs = search needs
+
+word-at-requires : tie.Need-word-at-requires Inv-loop μ-loop
+word-at-requires c κs = search needs
 
 signed-requires : tie.Need-signed-requires Inv-loop μ-loop
 signed-requires c κs = search needs
-
-mul-wide-entry : tie.Need-mul-wide-entry Inv-loop μ-loop
-mul-wide-entry c = search needs
-
-shared-slice-copy-out-wide-entry : tie.Need-shared-slice-copy-out-wide-entry Inv-loop μ-loop
-shared-slice-copy-out-wide-entry c = search needs
-
-wide-entry-requires : tie.Need-wide-entry-requires Inv-loop μ-loop
-wide-entry-requires c κs = search needs
 
 returns : tie.Need-returns Inv-loop μ-loop
 returns c = search needs
@@ -55,12 +52,11 @@ same-entries-spec =
     Inv-loop
     μ-loop
     loop-holds
-    wrapping-add-usize-requires
-    word-requires
+    mul-wide
+    shared-slice-copy-out-wide
+    wide-requires
+    word-at-requires
     signed-requires
-    mul-wide-entry
-    shared-slice-copy-out-wide-entry
-    wide-entry-requires
     returns
     add-i
     loop-less

@@ -7,10 +7,10 @@ use Rattle.replay.proofs.state.lend_numbers.Statement.{statement}
 use Rattle.replay.proofs.state.lend_numbers.Tie as tie
 
 abbrev Inv-loop : tie.InvT-loop
-Inv-loop due numbers₀ i₀ i-end numbers i = (i-end ≡ length numbers) × (length numbers ≡ length numbers₀)
+Inv-loop desk numbers₀ i₀ i-end numbers i = (i-end ≡ length numbers) × (length numbers ≡ length numbers₀)
 
 abbrev μ-loop : tie.MeasureT-loop
-μ-loop due numbers₀ i₀ i-end numbers i = i-end - i
+μ-loop desk numbers₀ i₀ i-end numbers i = i-end - i
 
 loop-holds : tie.Need-loop-holds Inv-loop μ-loop
 loop-holds c = search needs

@@ -7,10 +7,10 @@ use Rattle.replay.proofs.state.lend_scores.Statement.{statement}
 use Rattle.replay.proofs.state.lend_scores.Tie as tie
 
 abbrev Inv-loop : tie.InvT-loop
-Inv-loop due scores₀ i₀ i-end scores i = (i-end ≡ length scores) × (length scores ≡ length scores₀)
+Inv-loop desk scores₀ i₀ i-end scores i = (i-end ≡ length scores) × (length scores ≡ length scores₀)
 
 abbrev μ-loop : tie.MeasureT-loop
-μ-loop due scores₀ i₀ i-end scores i = i-end - i
+μ-loop desk scores₀ i₀ i-end scores i = i-end - i
 
 loop-holds : tie.Need-loop-holds Inv-loop μ-loop
 loop-holds c = search needs

@@ -1,4 +1,4 @@
--- `replay::state::move_back` is safe and ends. The list keeps its length. The measure is the place, which falls. Assumes nothing.
+-- `replay::state::move_back` is safe and ends. The desk keeps its length. The measure is the place, which falls. Assumes nothing.
 use mathlib.Core.Path.{_≡_}
 use Prim.Native.Nat.{_≤_}
 use lib.ListN.{length}
@@ -7,10 +7,10 @@ use Rattle.replay.proofs.state.move_back.Statement.{statement}
 use Rattle.replay.proofs.state.move_back.Tie as tie
 
 abbrev Inv-loop : tie.InvT-loop
-Inv-loop due₀ by entries back i₀ due i = (i ≤ 80) × (length due ≡ length due₀)
+Inv-loop desk₀ by entries back i₀ desk i = (i ≤ 80) × (length desk ≡ length desk₀)
 
 abbrev μ-loop : tie.MeasureT-loop
-μ-loop due₀ by entries back i₀ due i = i
+μ-loop desk₀ by entries back i₀ desk i = i
 
 mul-back : tie.Need-mul-back Inv-loop μ-loop
 mul-back c = search needs
@@ -24,20 +24,20 @@ loop-holds c = search needs
 sub-i : tie.Need-sub-i Inv-loop μ-loop
 sub-i c = search needs
 
-add-word : tie.Need-add-word Inv-loop μ-loop
-add-word c = search needs
+add-get-at : tie.Need-add-get-at Inv-loop μ-loop
+add-get-at c = search needs
 
-sub-word : tie.Need-sub-word Inv-loop μ-loop
-sub-word c = search needs
+sub-get-at : tie.Need-sub-get-at Inv-loop μ-loop
+sub-get-at c = search needs
 
-word-requires : tie.Need-word-requires Inv-loop μ-loop
-word-requires c κs = search needs
+get-at-requires : tie.Need-get-at-requires Inv-loop μ-loop
+get-at-requires c κs = search needs
 
-add-put-word : tie.Need-add-put-word Inv-loop μ-loop
-add-put-word c = search needs
+add-put-at : tie.Need-add-put-at Inv-loop μ-loop
+add-put-at c = search needs
 
-put-word-requires : tie.Need-put-word-requires Inv-loop μ-loop
-put-word-requires c κs = search needs
+put-at-requires : tie.Need-put-at-requires Inv-loop μ-loop
+put-at-requires c κs = search needs
 
 loop-less : tie.Need-loop-less Inv-loop μ-loop
 loop-less c = search needs
@@ -61,11 +61,11 @@ move-back-spec =
     mul-i
     loop-holds
     sub-i
-    add-word
-    sub-word
-    word-requires
-    add-put-word
-    put-word-requires
+    add-get-at
+    sub-get-at
+    get-at-requires
+    add-put-at
+    put-at-requires
     loop-less
     loop-again
     same-length

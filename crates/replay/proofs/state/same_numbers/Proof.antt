@@ -7,10 +7,10 @@ use Rattle.replay.proofs.state.same_numbers.Statement.{statement}
 use Rattle.replay.proofs.state.same_numbers.Tie as tie
 
 abbrev Inv-loop : tie.InvT-loop
-Inv-loop due numbers i₀ i-end i = i-end ≡ length numbers
+Inv-loop desk numbers i₀ i-end i = i-end ≡ length numbers
 
 abbrev μ-loop : tie.MeasureT-loop
-μ-loop due numbers i₀ i-end i = i-end - i
+μ-loop desk numbers i₀ i-end i = i-end - i
 
 loop-holds : tie.Need-loop-holds Inv-loop μ-loop
 loop-holds c = search needs

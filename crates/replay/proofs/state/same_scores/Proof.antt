@@ -7,10 +7,10 @@ use Rattle.replay.proofs.state.same_scores.Statement.{statement}
 use Rattle.replay.proofs.state.same_scores.Tie as tie
 
 abbrev Inv-loop : tie.InvT-loop
-Inv-loop due scores i₀ i-end i = i-end ≡ length scores
+Inv-loop desk scores i₀ i-end i = i-end ≡ length scores
 
 abbrev μ-loop : tie.MeasureT-loop
-μ-loop due scores i₀ i-end i = i-end - i
+μ-loop desk scores i₀ i-end i = i-end - i
 
 loop-holds : tie.Need-loop-holds Inv-loop μ-loop
 loop-holds c = search needs

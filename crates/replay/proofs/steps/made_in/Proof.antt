@@ -8,14 +8,14 @@ use Rattle.replay.proofs.steps.made_in.Tie as tie
 word-requires : tie.Need-word-requires
 word-requires c κs = search needs
 
+capped-requires : tie.Need-capped-requires
+capped-requires c κs = search needs
+
 word-requires-2 : tie.Need-word-requires-2
 word-requires-2 c κs = search needs
 
-returns : tie.Need-returns
-returns c = search needs
-
-returns-2 : tie.Need-returns-2
-returns-2 c = search needs
+capped-requires-2 : tie.Need-capped-requires-2
+capped-requires-2 c κs = search needs
 
 slice-relend-prefix-made : tie.Need-slice-relend-prefix-made
 slice-relend-prefix-made c = search needs
@@ -38,17 +38,20 @@ same-length c = search needs
 same-length-2 : tie.Need-same-length-2
 same-length-2 c = search needs
 
-returns-3 : tie.Need-returns-3
-returns-3 c = search needs
+same-length-3 : tie.Need-same-length-3
+same-length-3 c = search needs
+
+returns : tie.Need-returns
+returns c = search needs
 
 pub made-in-spec : {M : Type 1} → statement M
 made-in-spec =
     tie.close
     (tie.spec
     word-requires
+    capped-requires
     word-requires-2
-    returns
-    returns-2
+    capped-requires-2
     slice-relend-prefix-made
     slice-aggregate-made
     slice-relend-prefix-made-2
@@ -56,4 +59,5 @@ made-in-spec =
     made-requires
     same-length
     same-length-2
-    returns-3)
+    same-length-3
+    returns)

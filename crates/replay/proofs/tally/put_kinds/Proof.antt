@@ -5,16 +5,19 @@ use Rattle.replay.proofs.tally.put_kinds.Statement.{statement}
 use Rattle.replay.proofs.tally.put_kinds.Tie as tie
 
 abbrev Inv-loop : tie.InvT-loop
-Inv-loop tally kind₀ kind = Unit {0}
+Inv-loop desk kind₀ kind = Unit {0}
 
 abbrev μ-loop : tie.MeasureT-loop
-μ-loop tally kind₀ kind = 17 - kind
+μ-loop desk kind₀ kind = 12 - kind
 
 loop-holds : tie.Need-loop-holds Inv-loop μ-loop
 loop-holds c = tt
 
 put-name-requires : tie.Need-put-name-requires Inv-loop μ-loop
 put-name-requires c κs = search needs
+
+add-put-count : tie.Need-add-put-count Inv-loop μ-loop
+add-put-count c = search needs
 
 put-count-requires : tie.Need-put-count-requires Inv-loop μ-loop
 put-count-requires c κs = search needs
@@ -39,6 +42,7 @@ put-kinds-spec =
     μ-loop
     loop-holds
     put-name-requires
+    add-put-count
     put-count-requires
     add-kind
     loop-less

@@ -5,10 +5,10 @@ use Rattle.replay.proofs.tally.put_refusals.Statement.{statement}
 use Rattle.replay.proofs.tally.put_refusals.Tie as tie
 
 abbrev Inv-loop : tie.InvT-loop
-Inv-loop tally number₀ t3 number = Unit {0}
+Inv-loop desk number₀ t3 t4 number = Unit {0}
 
 abbrev μ-loop : tie.MeasureT-loop
-μ-loop tally number₀ t3 number = 12 - number
+μ-loop desk number₀ t3 t4 number = 12 - number
 
 loop-holds : tie.Need-loop-holds Inv-loop μ-loop
 loop-holds c = tt
@@ -19,8 +19,14 @@ slice-aggregate-put c = search needs
 put-requires : tie.Need-put-requires Inv-loop μ-loop
 put-requires c κs = search needs
 
-print-decimal-requires : tie.Need-print-decimal-requires Inv-loop μ-loop
-print-decimal-requires c κs = search needs
+put-number-requires : tie.Need-put-number-requires Inv-loop μ-loop
+put-number-requires c κs = search needs
+
+slice-aggregate-put-2 : tie.Need-slice-aggregate-put-2 Inv-loop μ-loop
+slice-aggregate-put-2 c = search needs
+
+put-requires-2 : tie.Need-put-requires-2 Inv-loop μ-loop
+put-requires-2 c κs = search needs
 
 add-put-count : tie.Need-add-put-count Inv-loop μ-loop
 add-put-count c = search needs
@@ -49,7 +55,9 @@ put-refusals-spec =
     loop-holds
     slice-aggregate-put
     put-requires
-    print-decimal-requires
+    put-number-requires
+    slice-aggregate-put-2
+    put-requires-2
     add-put-count
     put-count-requires
     add-number
