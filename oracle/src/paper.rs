@@ -13,8 +13,9 @@ const HEAD: &str = "\
 # I intra costs, the second plane being the work plane: depth, room, costs before, answer, costs after, runs that were written
 # B SATD of the two planes' samples: answer     S scale factor: width, height, mode, answer
 # T threshold: count, answer, value, costs      H transform: side, low, span, seed, length, how many differ, these, answer, after
-# W the state is changed: places and words      F fresh detector: settings, lengths, answer, changes of the state
-# C step: lengths, L, n, p, three lists (start in the pool, length, how many are new, these), answer, new entries, count, changes
+# W the state is changed: places and words      V measures of pairs, put into the pool: place, three for each pair
+# F fresh detector: settings, lengths, answer, changes of the state
+# C step: lengths, L, n, p, pair at which the lists start, their lengths, answer, new entries, count, changes of the state
 # E end: how many lines are above, their check
 ";
 
@@ -240,21 +241,29 @@ impl Paper {
         if let Some(given) = self.given.take() {
             self.put_state(&given);
         }
-        self.words(&r.words(5));
+        let call = r.words(5);
         let lists = [r.reals(), r.reals(), r.reals()];
         let answer = r.word() as i64;
-        for (which, list) in lists.iter().enumerate() {
-            let (start, new) = self.pool.put(which, list, answer >= 0);
-            self.word(start as u64).word(list.len() as u64).word(new as u64);
-            for &w in &list[list.len() - new..] {
-                self.real(w);
-            }
-        }
+        let start = self.put_measures(&lists, answer >= 0);
+        self.words(&call).word(start as u64).words(&lists.each_ref().map(|l| l.len() as u64));
         self.signed(answer);
         if answer >= 0 {
             self.stepped(r);
         }
         self.end('C');
+    }
+
+    /// Where a call's lists start in the pool, once the measures that it lacks are put there.
+    fn put_measures(&mut self, lists: &[Vec<u64>; 3], is_accepted: bool) -> usize {
+        let put = self.pool.put(lists, is_accepted);
+        if !put.new.is_empty() {
+            self.word(3 * put.at as u64);
+            for &w in put.new.as_flattened() {
+                self.real(w);
+            }
+            self.end('V');
+        }
+        put.start
     }
 
     /// The state that a call is to find. The places behind its entries stay as they are.

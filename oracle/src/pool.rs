@@ -1,52 +1,62 @@
-//! The lists of the detector's calls in the fixed list. Sets that follow each other share all but one of their pairs, so a
-//! list is a part of a pool, and its record holds only the values that are new there.
+//! The measures of the detector's calls in the fixed list. Sets that follow each other share all but one of their pairs, so
+//! a call's lists are a part of a pool of pairs, and only the pairs that are new there are written.
 
-/// Each list's films have so many places of the pool, one after the other; behind them is room for lists that no film has.
-const FILM: usize = 128;
-const OTHER: usize = 3 * FILM;
-const ROOM: usize = 32;
-const NAN: u64 = 0x7ff8 << 48;
+/// Films have these pairs of the pool; behind them is room for lists that no film has.
+const FILM: usize = 96;
+const PAIRS: usize = 128;
 
 pub struct Pool {
-    places: [u64; 512],
-    /// How many places of each film are in use.
-    used: [usize; 3],
+    /// Inter cost, importance and threshold of each pair.
+    pairs: [[u64; 3]; PAIRS],
+    used: usize,
+}
+
+/// Where the lists start, and the pairs that have to be put there before.
+pub struct Put {
+    pub start: usize,
+    pub at: usize,
+    pub new: Vec<[u64; 3]>,
 }
 
 impl Pool {
     pub fn new() -> Self {
-        Pool { places: [0; 512], used: [0; 3] }
+        Pool { pairs: [[0; 3]; PAIRS], used: 0 }
     }
 
-    /// Where a list stands, and how many of its last values are new there.
-    pub fn put(&mut self, which: usize, list: &[u64], is_accepted: bool) -> (usize, usize) {
-        let (film, used) = (which * FILM, which * FILM + self.used[which]);
-        let found = (film..used).find(|&at| used - at >= list.len() && self.places[at..at + list.len()] == *list);
-        if let Some(at) = found.or(list.is_empty().then_some(film)) {
-            return (at, 0);
+    fn holds(&self, start: usize, lists: &[Vec<u64>; 3]) -> bool {
+        (0..3).all(|k| lists[k].iter().enumerate().all(|(i, &w)| self.pairs.get(start + i).is_some_and(|p| p[k] == w)))
+    }
+
+    /// Lists of a refused call are no film's.
+    pub fn put(&mut self, lists: &[Vec<u64>; 3], is_accepted: bool) -> Put {
+        if let Some(start) = (0..=FILM).find(|&start| self.holds(start, lists)) {
+            return Put { start, at: 0, new: Vec::new() };
         }
-        if !is_accepted || unread(which, list) {
-            return self.put_other(which, list);
+        let len = lists[0].len();
+        if !is_accepted || lists.iter().any(|l| l.len() != len) {
+            return self.put_other(lists);
         }
-        // What is in use may end with what the list begins with.
-        let shared = (film..used).find(|&at| list.starts_with(&self.places[at..used]));
-        let start = shared.filter(|at| at + list.len() <= film + FILM);
-        let (start, new) = start.map_or((film, list.len()), |at| (at, list.len() - (used - at)));
-        self.places[start..start + list.len()].copy_from_slice(list);
-        self.used[which] = start + list.len() - film;
-        (start, new)
+        // What is in use may end with what the lists begin with.
+        let film: Vec<[u64; 3]> = (0..len).map(|i| [lists[0][i], lists[1][i], lists[2][i]]).collect();
+        let shared = (0..self.used).find(|&at| film.starts_with(&self.pairs[at..self.used]));
+        let start = shared.filter(|at| at + len <= FILM).unwrap_or(0);
+        let at = if shared == Some(start) { self.used } else { start };
+        let new = film[at - start..].to_vec();
+        self.pairs[at..at + new.len()].copy_from_slice(&new);
+        self.used = start + len;
+        Put { start, at, new }
     }
 
-    fn put_other(&mut self, which: usize, list: &[u64]) -> (usize, usize) {
-        let start = OTHER + which * ROOM;
-        let kept = self.places[start..].iter().zip(list).take_while(|(a, b)| a == b).count();
-        self.places[start..start + list.len()].copy_from_slice(list);
-        (start, list.len() - kept)
+    /// Of the pairs behind the films only those from the first to the last that change are new.
+    fn put_other(&mut self, lists: &[Vec<u64>; 3]) -> Put {
+        let before = self.pairs;
+        for (k, list) in lists.iter().enumerate() {
+            for (i, &w) in list.iter().enumerate() {
+                self.pairs[FILM + i][k] = w;
+            }
+        }
+        let changed: Vec<usize> = (FILM..PAIRS).filter(|&i| self.pairs[i] != before[i]).collect();
+        let (at, end) = (changed[0], changed[changed.len() - 1] + 1);
+        Put { start: FILM, at, new: self.pairs[at..end].to_vec() }
     }
-}
-
-/// A list that no mode reads begins with a number that no film has.
-fn unread(which: usize, list: &[u64]) -> bool {
-    let number = [NAN, f64::NEG_INFINITY.to_bits(), (-1.0f64).to_bits()];
-    list[0] == number[which]
 }

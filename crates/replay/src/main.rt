@@ -33,26 +33,36 @@ fn end(desk: &mut [u64]) {
     desk::add(desk, desk::ENDED);
 }
 
-// A line of which nothing is known.
-fn unknown(desk: &mut [u64]) {
-    desk::expect(desk, false);
+// A record on the detector, by its letter. Any other letter is none.
+fn replay_detector(letter: u64, desk: &mut [u64]) {
+    match letter {
+        67 => steps::step(desk),
+        70 => steps::fresh(desk),
+        86 => steps::measures(desk),
+        87 => steps::state(desk),
+        69 => end(desk),
+        _ => desk::expect(desk, false),
+    }
 }
 
-// One record, by its letter.
+// A record on lists, or on the detector.
+fn replay_list(letter: u64, desk: &mut [u64]) {
+    match letter {
+        72 => lists::transform(desk),
+        83 => lists::scale(desk),
+        84 => lists::threshold(desk),
+        _ => replay_detector(letter, desk),
+    }
+}
+
+// A record, by its letter.
 fn replay(letter: u64, desk: &mut [u64], samples: &mut [u8]) {
     match letter {
         66 => planes::satd(desk, samples),
-        67 => steps::step(desk),
         68 => planes::pair(desk, samples),
-        69 => end(desk),
-        70 => steps::fresh(desk),
-        72 => lists::transform(desk),
         73 => costs::intra(desk, samples),
         80 => planes::plane(desk, samples),
-        83 => lists::scale(desk),
-        84 => lists::threshold(desk),
-        87 => steps::state(desk),
-        _ => unknown(desk),
+        _ => replay_list(letter, desk),
     }
 }
 
@@ -102,7 +112,7 @@ fn read_all(room: &mut [u8], desk: &mut [u64], samples: &mut [u8]) {
     }
 }
 
-fn replay_list(room: &mut [u8], desk: &mut [u64], samples: &mut [u8]) {
+fn replay_all(room: &mut [u8], desk: &mut [u64], samples: &mut [u8]) {
     read_all(room, desk, samples);
     let is_whole = (get(desk, desk::BYTES) == 0) & (get(desk, desk::ENDED) == 1);
     tally::expect(desk, is_whole, b"the list ends too early");
@@ -113,5 +123,5 @@ fn main() {
     let mut room = io::large_buffer();
     let mut desk = [0u64; desk::PLACES];
     let mut samples = [0u8; SAMPLES];
-    replay_list(&mut room, &mut desk, &mut samples);
+    replay_all(&mut room, &mut desk, &mut samples);
 }

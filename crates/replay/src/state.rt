@@ -44,22 +44,21 @@ fn move_back(desk: &mut [u64], by: usize, entries: usize)
 }
 
 // The state after an accepted call: how many entries are new in front, how many there are, changes.
-fn changed(desk: &mut [u64], at: usize) {
-    let by = desk::capped(desk, word(desk, at), ENTRIES);
-    let entries = desk::capped(desk, desk::word_at(desk, at, 1), ENTRIES);
+fn changed(desk: &mut [u64]) {
+    let by = desk::capped(desk, word(desk, 10), ENTRIES);
+    let entries = desk::capped(desk, word(desk, 11), ENTRIES);
     move_back(desk, by, entries);
     put_at(desk, desk::STATE, COUNT, entries as u64);
-    change(desk, std::num::wrapping_add_usize(at, 2));
+    change(desk, 12);
 }
 
-// The state after a call whose answer stands at `at`: as before where it is refused.
-pub fn after(desk: &mut [u64], at: usize) {
-    let next = std::num::wrapping_add_usize(at, 1);
-    if NEGATIVE <= word(desk, at) {
-        desk::expect_words(desk, next as u64);
+// The state after a step: as before where it is refused.
+pub fn after(desk: &mut [u64]) {
+    if NEGATIVE <= word(desk, 9) {
+        desk::expect_words(desk, 10);
         return;
     }
-    changed(desk, next);
+    changed(desk);
 }
 
 // The numbers as they are lent: 0 behind those of the state.
@@ -80,16 +79,22 @@ fn double(desk: &[u64], i: usize) -> u64 {
     }
 }
 
-pub fn lend_numbers(desk: &[u64], numbers: &mut [u64]) {
+fn lend_numbers(desk: &[u64], numbers: &mut [u64]) {
     for i in 0..numbers.len() {
         numbers[i] = number(desk, i);
     }
 }
 
-pub fn lend_scores(desk: &[u64], scores: &mut [f64]) {
+fn lend_scores(desk: &[u64], scores: &mut [f64]) {
     for i in 0..scores.len() {
         scores[i] = float::of_bits(double(desk, i));
     }
+}
+
+// The state in its places, as it is lent.
+pub fn lend(desk: &[u64], numbers: &mut [u64], scores: &mut [f64]) {
+    lend_numbers(desk, numbers);
+    lend_scores(desk, scores);
 }
 
 pub fn same_numbers(desk: &[u64], numbers: &[u64]) -> bool {

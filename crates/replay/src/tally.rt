@@ -37,7 +37,7 @@ pub const STEP: usize = 11;
 const KINDS: usize = 12;
 
 // A name is so long.
-const NAME: usize = 17;
+const NAME: usize = 7;
 
 // Refusals have the numbers below this.
 const NUMBERS: usize = 12;
@@ -53,7 +53,7 @@ fn put_number(n: u64) {
 fn put_name(kind: usize) {
     let at = kind % KINDS * NAME;
     put(drawn::part(
-        b"scale factor     plane difference importance total delta            importance       intra costs      threshold        transform of 4x4 transform of 8x8 SATD             fresh detector   step             ",
+        b"scale  sad    total  delta  import intra  thresh 4x4    8x8    satd   fresh  step   ",
         at,
         NAME,
     ));

@@ -7,13 +7,22 @@ use Rattle.replay.proofs.steps.load.Statement.{statement}
 use Rattle.replay.proofs.steps.load.Tie as tie
 
 abbrev Inv-loop : tie.InvT-loop
-Inv-loop desk place lists₀ to i₀ lists i = length lists ≡ length lists₀
+Inv-loop desk start lists₀ i₀ i-end lists i = (i-end ≡ length lists) × (length lists ≡ length lists₀)
 
 abbrev μ-loop : tie.MeasureT-loop
-μ-loop desk place lists₀ to i₀ lists i = 32 - i
+μ-loop desk start lists₀ i₀ i-end lists i = i-end - i
 
 loop-holds : tie.Need-loop-holds Inv-loop μ-loop
 loop-holds c = search needs
+
+add-place : tie.Need-add-place Inv-loop μ-loop
+add-place c = search needs
+
+mul-place : tie.Need-mul-place Inv-loop μ-loop
+mul-place c = search needs
+
+add-place-2 : tie.Need-add-place-2 Inv-loop μ-loop
+add-place-2 c = search needs
 
 get-at-requires : tie.Need-get-at-requires Inv-loop μ-loop
 get-at-requires c κs = search needs
@@ -21,11 +30,11 @@ get-at-requires c κs = search needs
 of-bits-requires : tie.Need-of-bits-requires Inv-loop μ-loop
 of-bits-requires c κs = search needs
 
-wrapping-add-usize-requires : tie.Need-wrapping-add-usize-requires Inv-loop μ-loop
-wrapping-add-usize-requires c κs = search needs
+mul-lists : tie.Need-mul-lists Inv-loop μ-loop
+mul-lists c = search needs
 
-put-real-requires : tie.Need-put-real-requires Inv-loop μ-loop
-put-real-requires c κs = search needs
+slice-write-lists : tie.Need-slice-write-lists Inv-loop μ-loop
+slice-write-lists c = search needs
 
 add-i : tie.Need-add-i Inv-loop μ-loop
 add-i c = search needs
@@ -49,10 +58,13 @@ load-spec =
     Inv-loop
     μ-loop
     loop-holds
+    add-place
+    mul-place
+    add-place-2
     get-at-requires
     of-bits-requires
-    wrapping-add-usize-requires
-    put-real-requires
+    mul-lists
+    slice-write-lists
     add-i
     loop-less
     loop-again
