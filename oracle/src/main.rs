@@ -22,6 +22,7 @@ mod run;
 mod stream;
 mod tally;
 mod values;
+mod words;
 
 use detector_cases::Desk;
 use random::Random;

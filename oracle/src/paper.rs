@@ -4,6 +4,7 @@ use crate::picture::{Picture, nearest};
 use crate::pool::Pool;
 use crate::reading::{COUNT, NUMBERS, OFFSET, SCORES};
 use crate::stream::Kind;
+use crate::words::{Reader, bits};
 
 const HEAD: &str = "\
 # The fixed list: calls and measures with the answers of av-scenechange 0.24.1. `make -C oracle list` makes it.
@@ -21,7 +22,6 @@ const HEAD: &str = "\
 
 /// What a place for a float holds before a call.
 const BEFORE: f64 = 12345.5;
-const NAN: u64 = 0x7ff8 << 48;
 const ENTRY: usize = 5;
 /// The most words of a line.
 const WORDS: usize = 512;
@@ -38,39 +38,6 @@ pub struct Paper {
     pool: Pool,
     /// What the next planes or entries were drawn from.
     pub pictures: [Picture; 2],
-}
-
-/// The words of a record of the stream, one after the other.
-struct Reader<'a>(&'a [u64]);
-
-impl Reader<'_> {
-    fn word(&mut self) -> u64 {
-        self.words(1)[0]
-    }
-    fn words(&mut self, count: usize) -> Vec<u64> {
-        let (front, rest) = self.0.split_at(count);
-        self.0 = rest;
-        front.to_vec()
-    }
-    fn reals(&mut self) -> Vec<u64> {
-        let count = self.word() as usize;
-        self.words(count).into_iter().map(bits).collect()
-    }
-    fn bytes(&mut self) -> Vec<u8> {
-        let count = self.word() as usize;
-        let all: Vec<u8> = self.words(count.div_ceil(8)).iter().flat_map(|w| w.to_le_bytes()).collect();
-        all[..count].to_vec()
-    }
-    fn halves(&mut self) -> Vec<u32> {
-        let count = self.word() as usize;
-        let all: Vec<u32> = self.words(count.div_ceil(2)).iter().flat_map(|&w| [w as u32, (w >> 32) as u32]).collect();
-        all[..count].to_vec()
-    }
-}
-
-/// The bits of a float; every NaN is one.
-fn bits(w: u64) -> u64 {
-    if f64::from_bits(w).is_nan() { NAN } else { w }
 }
 
 impl Paper {

@@ -33,7 +33,11 @@ impl Picture {
 }
 
 /// Of two pictures the one that fewer values differ from, and those that do, with their places.
-pub fn nearest<T: Copy + PartialEq>(list: &[T], pictures: [Picture; 2], of: fn(Picture, usize) -> Vec<T>) -> (Picture, Vec<(usize, T)>) {
+pub fn nearest<T: Copy + PartialEq>(
+    list: &[T],
+    pictures: [Picture; 2],
+    of: fn(Picture, usize) -> Vec<T>,
+) -> (Picture, Vec<(usize, T)>) {
     let differ = |p: Picture| -> Vec<(usize, T)> {
         let drawn = of(p, list.len());
         (0..list.len()).filter(|&i| list[i] != drawn[i]).map(|i| (i, list[i])).collect()

@@ -37,7 +37,7 @@ pub const STEP: usize = 11;
 const KINDS: usize = 12;
 
 // A name is so long.
-const NAME: usize = 7;
+const NAME: usize = 11;
 
 // Refusals have the numbers below this.
 const NUMBERS: usize = 12;
@@ -53,7 +53,7 @@ fn put_number(n: u64) {
 fn put_name(kind: usize) {
     let at = kind % KINDS * NAME;
     put(drawn::part(
-        b"scale  sad    total  delta  import intra  thresh 4x4    8x8    satd   fresh  step   ",
+        b"scale      difference total      delta      importance intra      threshold  4x4        8x8        SATD       fresh      step       ",
         at,
         NAME,
     ));
