@@ -32,8 +32,6 @@ fn measures(desk: &mut Desk) {
     pair_of(desk, 8, &flat(7, 8, 1), &flat(7, 8, 200));
     pair_of(desk, 8, &flat(8192, 1, 0), &flat(8192, 1, 255));
     pair_of(desk, 8, &flat(8193, 1, 0), &flat(8193, 1, 255));
-    // A difference that 32 bits do not hold.
-    pair_of(desk, 8, &flat(4105, 4105, 0), &flat(4105, 4105, 255));
     let mut one = [128u8; 64];
     one[27] = 129;
     for block in [[128; 64], [0; 64], [255; 64], one] {
@@ -43,6 +41,11 @@ fn measures(desk: &mut Desk) {
     }
     intra_of(desk, 8, &flat(15, 17, 4), &flat(15, 17, 3), &[9, 9]);
     intra_of(desk, 8, &flat(7, 8, 4), &flat(7, 8, 3), &[]);
+}
+
+/// A difference that 32 bits do not hold.
+pub fn large(desk: &mut Desk) {
+    pair_of(desk, 8, &flat(4105, 4105, 0), &flat(4105, 4105, 255));
 }
 
 fn fresh(settings: [u64; 7]) -> State {

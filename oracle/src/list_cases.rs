@@ -32,21 +32,25 @@ pub fn hadamard(desk: &mut Desk, r: &mut Random, side: usize) {
     if r.once_in(20) {
         list.resize(r.of(&[0, 15, 16, 17, 63, 64, 65]), 1);
     }
-    let fault = read::hadamard_fault(&list, side);
-    let mut after = list.clone();
+    hadamard_of(desk, &list, side);
+}
+
+pub fn hadamard_of(desk: &mut Desk, list: &[i32], side: usize) {
+    let fault = read::hadamard_fault(list, side);
+    let mut after = list.to_vec();
     if fault == 0 {
         Scenes::door_hadamard(&mut after);
-        let mut ours = list.clone();
+        let mut ours = list.to_vec();
         read::hadamard(&mut ours, side);
         if after != ours {
             desk.tally.differs("a transform");
         }
         desk.tally.measures += 1;
     } else {
-        desk.tally.refusal(fault, runs(&list, side));
+        desk.tally.refusal(fault, runs(list, side));
     }
     let words = |l: &[i32]| -> Vec<u32> { l.iter().map(|&x| x as u32).collect() };
-    desk.out.word(side as u64).halves(&words(&list)).answer(-i64::from(fault)).halves(&words(&after));
+    desk.out.word(side as u64).halves(&words(list)).answer(-i64::from(fault)).halves(&words(&after));
     desk.out.end(Kind::Hadamard);
 }
 

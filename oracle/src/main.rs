@@ -1,5 +1,6 @@
 //! Cases from a seed with the crate's answers, as a stream of words on the standard output.
 //!   oracle SEED COUNT       COUNT detector calls that the crate answers, COUNT / 10 measures of each kind at least
+//!   oracle list SEED            the fixed list, as text
 //!   oracle film SEED FOLDER     a film for the command `brinepulley decide`, with the words to give it
 //!   oracle decided SEED         compares what the command wrote, from the standard input, with what the crate finds
 mod attempt;
@@ -8,15 +9,20 @@ mod decide;
 mod detector_cases;
 mod edges;
 mod films;
+mod list;
 mod list_cases;
 mod measures_reading;
+mod paper;
+mod picture;
 mod plane_cases;
+mod pool;
 mod random;
 mod reading;
 mod run;
 mod stream;
 mod tally;
 mod values;
+mod words;
 
 use detector_cases::Desk;
 use random::Random;
@@ -26,6 +32,7 @@ use tally::Tally;
 fn main() {
     let argument = |i: usize| std::env::args().nth(i).unwrap_or_default();
     match argument(1).as_str() {
+        "list" => return list(&argument(2)),
         "film" => return decide::write(&argument(2), &argument(3)).expect("a folder that can be written"),
         "decided" => std::process::exit(i32::from(!decide::compare(&argument(2)))),
         _ => (),
@@ -36,6 +43,7 @@ fn main() {
     let (mut out, mut tally, mut r) = (Stream::new(), Tally::default(), Random::new(seed));
     let mut desk = Desk { out: &mut out, tally: &mut tally };
     edges::all(&mut desk);
+    edges::large(&mut desk);
     for _ in 0..count / 5 + 20 {
         list_cases::scale(&mut desk, &mut r);
         plane_cases::pair(&mut desk, &mut r);
@@ -51,6 +59,18 @@ fn main() {
     while desk.tally.calls < count {
         detector_cases::run(&mut desk, &mut r);
     }
+    finish(&mut out, &tally, seed);
+}
+
+fn list(seed: &str) {
+    let seed = seed.parse().expect("a seed");
+    attempt::prepare();
+    let (mut out, mut tally) = (Stream::listed(), Tally::default());
+    list::all(&mut Desk { out: &mut out, tally: &mut tally }, &mut Random::new(seed));
+    finish(&mut out, &tally, seed);
+}
+
+fn finish(out: &mut Stream, tally: &Tally, seed: u64) {
     out.finish();
     tally.print(seed);
     if tally.different != 0 {

@@ -40,13 +40,19 @@ fn picture(r: &mut Random, size: usize) -> Vec<u8> {
     (0..size).map(sample).collect()
 }
 
-/// A plane with room before, between and behind its rows.
-fn lent(r: &mut Random, width: u64, height: u64) -> Lent {
+/// The shape of a plane with room before, between and behind its rows, and how many samples it has.
+pub fn shaped(r: &mut Random, width: u64, height: u64) -> (Lent, usize) {
     let stride = if height == 1 && r.once_in(4) { u64::MAX } else { width + r.of(&[0, 0, 1, 3, 8, 61]) };
     let origin = r.of(&[0, 0, 1, 7, 64]);
     let end = origin + (height - 1) * stride.min(1 << 40) + width;
     let size = (end + r.of(&[0, 0, 1, 9])) as usize;
-    Lent { samples: picture(r, size), width, height, stride, origin }
+    (Lent { samples: Vec::new(), width, height, stride, origin }, size)
+}
+
+fn lent(r: &mut Random, width: u64, height: u64) -> Lent {
+    let (mut l, size) = shaped(r, width, height);
+    l.samples = picture(r, size);
+    l
 }
 
 fn plane(l: &Lent) -> Plane<u8> {
@@ -58,7 +64,7 @@ fn frame(l: &Lent) -> Arc<Frame<u8>> {
     Arc::new(Frame::of(plane(l), Fed::default()))
 }
 
-fn hurt_one(r: &mut Random, a: &mut Lent, b: &mut Lent) {
+pub fn hurt_one(r: &mut Random, a: &mut Lent, b: &mut Lent) {
     let first = r.once_in(2);
     hurt(r, if first { a } else { b });
 }
@@ -77,7 +83,7 @@ fn hurt(r: &mut Random, l: &mut Lent) {
     }
 }
 
-fn depth(r: &mut Random) -> u64 {
+pub fn depth(r: &mut Random) -> u64 {
     if r.once_in(60) { r.of(&[0, 7, 9, 10, 12, 16, 1 << 31, u64::from(u32::MAX)]) } else { 8 }
 }
 

@@ -2,6 +2,9 @@
 //! those words. Bytes and 32-bit numbers are packed into words, the rest of the last word 0.
 use std::io::{BufWriter, Stdout, Write, stdout};
 
+use crate::paper::Paper;
+use crate::picture::Picture;
+
 #[derive(Clone, Copy)]
 pub enum Kind {
     End = 0,
@@ -21,11 +24,25 @@ pub struct Stream {
     out: BufWriter<Stdout>,
     words: Vec<u64>,
     pub records: u64,
+    /// Where the records go in place of the stream.
+    paper: Option<Paper>,
 }
 
 impl Stream {
     pub fn new() -> Self {
-        Stream { out: BufWriter::with_capacity(1 << 18, stdout()), words: Vec::new(), records: 0 }
+        Stream { out: BufWriter::with_capacity(1 << 18, stdout()), words: Vec::new(), records: 0, paper: None }
+    }
+
+    /// The records as the fixed list.
+    pub fn listed() -> Self {
+        Stream { paper: Some(Paper::new()), ..Stream::new() }
+    }
+
+    /// What the samples or the entries of the next record were drawn from.
+    pub fn drawn(&mut self, pictures: [Picture; 2]) {
+        if let Some(paper) = &mut self.paper {
+            paper.pictures = pictures;
+        }
     }
 
     pub fn word(&mut self, w: u64) -> &mut Self {
@@ -76,11 +93,12 @@ impl Stream {
 
     /// Ends a record.
     pub fn end(&mut self, kind: Kind) {
-        let head = [kind as u64, self.words.len() as u64];
-        for w in head.iter().chain(&self.words) {
-            // The reader is gone once it has found too much: there is nobody left to write for.
-            if self.out.write_all(&w.to_le_bytes()).is_err() {
-                std::process::exit(3);
+        if let Some(paper) = &mut self.paper {
+            paper.record(kind, &self.words);
+        } else {
+            let head = [kind as u64, self.words.len() as u64];
+            for w in head.iter().chain(&self.words) {
+                put(&mut self.out, &w.to_le_bytes());
             }
         }
         self.words.clear();
@@ -88,10 +106,21 @@ impl Stream {
     }
 
     pub fn finish(&mut self) {
-        let records = self.records;
-        self.word(records).end(Kind::End);
+        if let Some(paper) = &mut self.paper {
+            put(&mut self.out, paper.finish().as_bytes());
+        } else {
+            let records = self.records;
+            self.word(records).end(Kind::End);
+        }
         if self.out.flush().is_err() {
             std::process::exit(3);
         }
+    }
+}
+
+/// The reader is gone once it has found too much: there is nobody left to write for.
+fn put(out: &mut BufWriter<Stdout>, bytes: &[u8]) {
+    if out.write_all(bytes).is_err() {
+        std::process::exit(3);
     }
 }

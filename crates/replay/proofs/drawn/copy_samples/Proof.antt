@@ -1,0 +1,52 @@
+-- `replay::drawn::copy_samples` is safe and ends. The list keeps its length. The measure is how many samples are left. Assumes nothing.
+use mathlib.Core.Path.{_≡_}
+use Prim.Native.Nat.{_-_}
+use lib.ListN.{length}
+use borrow.Author.Needs.{needs}
+use Rattle.replay.proofs.drawn.copy_samples.Statement.{statement}
+use Rattle.replay.proofs.drawn.copy_samples.Tie as tie
+
+abbrev Inv-loop : tie.InvT-loop
+Inv-loop samples from to₀ i₀ i-end to i = (i-end ≡ length to) × (length to ≡ length to₀)
+
+abbrev μ-loop : tie.MeasureT-loop
+μ-loop samples from to₀ i₀ i-end to i = i-end - i
+
+loop-holds : tie.Need-loop-holds Inv-loop μ-loop
+loop-holds c = search needs
+
+sample-requires : tie.Need-sample-requires Inv-loop μ-loop
+sample-requires c κs = search needs
+
+slice-write-to : tie.Need-slice-write-to Inv-loop μ-loop
+slice-write-to c = search needs
+
+add-i : tie.Need-add-i Inv-loop μ-loop
+add-i c = search needs
+
+loop-less : tie.Need-loop-less Inv-loop μ-loop
+loop-less c = search needs
+
+loop-again : tie.Need-loop-again Inv-loop μ-loop
+loop-again c = search needs
+
+same-length : tie.Need-same-length Inv-loop μ-loop
+same-length c = search needs
+
+returns : tie.Need-returns Inv-loop μ-loop
+returns c = search needs
+
+pub copy-samples-spec : {M : Type 1} → statement M
+copy-samples-spec =
+    tie.close
+    (tie.spec
+    Inv-loop
+    μ-loop
+    loop-holds
+    sample-requires
+    slice-write-to
+    add-i
+    loop-less
+    loop-again
+    same-length
+    returns)

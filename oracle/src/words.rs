@@ -1,0 +1,40 @@
+//! A record of the stream taken apart again.
+
+const NAN: u64 = 0x7ff8 << 48;
+
+/// The words of a record of the stream, one after the other.
+pub struct Reader<'a>(pub &'a [u64]);
+
+impl Reader<'_> {
+    pub fn word(&mut self) -> u64 {
+        self.words(1)[0]
+    }
+
+    pub fn words(&mut self, count: usize) -> Vec<u64> {
+        let (front, rest) = self.0.split_at(count);
+        self.0 = rest;
+        front.to_vec()
+    }
+
+    pub fn reals(&mut self) -> Vec<u64> {
+        let count = self.word() as usize;
+        self.words(count).into_iter().map(bits).collect()
+    }
+
+    pub fn bytes(&mut self) -> Vec<u8> {
+        let count = self.word() as usize;
+        let all: Vec<u8> = self.words(count.div_ceil(8)).iter().flat_map(|w| w.to_le_bytes()).collect();
+        all[..count].to_vec()
+    }
+
+    pub fn halves(&mut self) -> Vec<u32> {
+        let count = self.word() as usize;
+        let all: Vec<u32> = self.words(count.div_ceil(2)).iter().flat_map(|&w| [w as u32, (w >> 32) as u32]).collect();
+        all[..count].to_vec()
+    }
+}
+
+/// The bits of a float; every NaN is one.
+pub fn bits(w: u64) -> u64 {
+    if f64::from_bits(w).is_nan() { NAN } else { w }
+}
