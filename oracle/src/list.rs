@@ -1,11 +1,13 @@
 //! What stands in the fixed list: the values at the edges, then measures and calls from a seed. Planes are small.
-use crate::detector_cases::{self, Desk};
+use crate::damage;
+use crate::detector_cases::{self, Desk, LENGTHS, put_state};
 use crate::edges;
 use crate::list_cases;
 use crate::measures_reading::Lent;
 use crate::picture::Picture;
 use crate::plane_cases::{depth, hurt_one, intra_of, pair_of, shaped};
 use crate::random::Random;
+use crate::reading::{self, Call, SCORES, STANDARD, State};
 
 /// How often each measure is drawn; some are refused. How many calls the crate answers.
 const MEASURES: u64 = 250;
@@ -95,8 +97,18 @@ fn hadamard(desk: &mut Desk, r: &mut Random, side: usize) {
     list_cases::hadamard_of(desk, &list, side);
 }
 
+/// 16 entries are too many, also without lookahead.
+fn sixteen(desk: &mut Desk) {
+    let s = State { numbers: [64, 64, 8, 0, STANDARD, 0, 1000, 0, 0, 0, 0, 0, 16], places: [1.0; SCORES] };
+    let one = || vec![1.0];
+    let c = Call { set: 2, frame: 1, previous: 0, inter: one(), importance: one(), threshold: one() };
+    put_state(desk, &s);
+    damage::refused(desk, LENGTHS, &s, &c, reading::step_fault(LENGTHS, &s, &c));
+}
+
 pub fn all(desk: &mut Desk, r: &mut Random) {
     edges::all(desk);
+    sixteen(desk);
     for _ in 0..MEASURES {
         list_cases::scale(desk, r);
         pair(desk, r);

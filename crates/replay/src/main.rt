@@ -19,6 +19,31 @@ const IN: i32 = 0;
 // The list is read in so many parts at most, of 65,536 bytes each.
 const PARTS: u64 = 32;
 
+// The letters that lines begin with: P, D, I, B, S, T, H, W, V, F, C, E, #.
+const PLANE: u64 = 80;
+
+const PAIR: u64 = 68;
+
+const INTRA: u64 = 73;
+
+const SATD: u64 = 66;
+
+const SCALE: u64 = 83;
+
+const THRESHOLD: u64 = 84;
+
+const TRANSFORM: u64 = 72;
+
+const STATE: u64 = 87;
+
+const MEASURES: u64 = 86;
+
+const FRESH: u64 = 70;
+
+const STEP: u64 = 67;
+
+const END: u64 = 69;
+
 const COMMENT: u64 = 35;
 
 // The samples of both planes.
@@ -36,11 +61,11 @@ fn end(desk: &mut [u64]) {
 // A record on the detector, by its letter. Any other letter is none.
 fn replay_detector(letter: u64, desk: &mut [u64]) {
     match letter {
-        67 => steps::step(desk),
-        70 => steps::fresh(desk),
-        86 => steps::measures(desk),
-        87 => steps::state(desk),
-        69 => end(desk),
+        STEP => steps::step(desk),
+        FRESH => steps::fresh(desk),
+        MEASURES => steps::measures(desk),
+        STATE => steps::state(desk),
+        END => end(desk),
         _ => desk::expect(desk, false),
     }
 }
@@ -48,9 +73,9 @@ fn replay_detector(letter: u64, desk: &mut [u64]) {
 // A record on lists, or on the detector.
 fn replay_list(letter: u64, desk: &mut [u64]) {
     match letter {
-        72 => lists::transform(desk),
-        83 => lists::scale(desk),
-        84 => lists::threshold(desk),
+        TRANSFORM => lists::transform(desk),
+        SCALE => lists::scale(desk),
+        THRESHOLD => lists::threshold(desk),
         _ => replay_detector(letter, desk),
     }
 }
@@ -58,10 +83,10 @@ fn replay_list(letter: u64, desk: &mut [u64]) {
 // A record, by its letter.
 fn replay(letter: u64, desk: &mut [u64], samples: &mut [u8]) {
     match letter {
-        66 => planes::satd(desk, samples),
-        68 => planes::pair(desk, samples),
-        73 => costs::intra(desk, samples),
-        80 => planes::plane(desk, samples),
+        SATD => planes::satd(desk, samples),
+        PAIR => planes::pair(desk, samples),
+        INTRA => costs::intra(desk, samples),
+        PLANE => planes::plane(desk, samples),
         _ => replay_list(letter, desk),
     }
 }
