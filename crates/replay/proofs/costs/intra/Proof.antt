@@ -1,4 +1,4 @@
--- `replay::costs::intra` is safe. Assumes nothing.
+-- `replay::costs::intra` is safe: the first n places of a list are n. Assumes nothing.
 use native.Mathlib.Omega.{arith}
 use lib.ListN.{length-take}
 use borrow.Author.Needs.{needs}

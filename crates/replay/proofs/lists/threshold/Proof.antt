@@ -1,4 +1,4 @@
--- `replay::lists::threshold` is safe. Assumes nothing.
+-- `replay::lists::threshold` is safe: the first n places of a list are n. Assumes nothing.
 use native.Mathlib.Omega.{arith}
 use lib.ListN.{length-take}
 use borrow.Author.Needs.{needs}

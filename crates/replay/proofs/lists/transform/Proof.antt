@@ -1,4 +1,4 @@
--- `replay::lists::transform` is safe. Assumes nothing.
+-- `replay::lists::transform` is safe: the first n places of a list are n. Assumes nothing.
 use native.Mathlib.Omega.{arith}
 use lib.ListN.{length-take}
 use borrow.Author.Needs.{needs}
