@@ -97,18 +97,21 @@ fn hadamard(desk: &mut Desk, r: &mut Random, side: usize) {
     list_cases::hadamard_of(desk, &list, side);
 }
 
-/// 16 entries are too many, also without lookahead.
-fn sixteen(desk: &mut Desk) {
-    let s = State { numbers: [64, 64, 8, 0, STANDARD, 0, 1000, 0, 0, 0, 0, 0, 16], places: [1.0; SCORES] };
+/// States for which 11 is due, whatever the seed draws: 16 entries are too many, also without lookahead; with none the offset
+/// is A.
+fn refused_states(desk: &mut Desk) {
     let one = || vec![1.0];
     let c = Call { set: 2, frame: 1, previous: 0, inter: one(), importance: one(), threshold: one() };
-    put_state(desk, &s);
-    damage::refused(desk, LENGTHS, &s, &c, reading::step_fault(LENGTHS, &s, &c));
+    for (lookahead, count) in [(0, 16), (5, 0)] {
+        let s = State { numbers: [64, 64, 8, lookahead, STANDARD, 0, 1000, 0, 0, 0, 0, 0, count], places: [1.0; SCORES] };
+        put_state(desk, &s);
+        damage::refused(desk, LENGTHS, &s, &c, reading::step_fault(LENGTHS, &s, &c));
+    }
 }
 
 pub fn all(desk: &mut Desk, r: &mut Random) {
     edges::all(desk);
-    sixteen(desk);
+    refused_states(desk);
     for _ in 0..MEASURES {
         list_cases::scale(desk, r);
         pair(desk, r);
