@@ -7,7 +7,7 @@ ghost use Rattle.intra.specs.Costs.{intraOf, workOf, costsOf};
 ghost use Rattle.intra.specs.Threshold.{thresholdOf};
 ghost use Rattle.lent.specs.Lent.{freshFault, freshNumbers, lentStep, numbersAfter, scoresAfter};
 ghost use Rattle.lent.specs.Places.{settingsBy};
-ghost use Rattle.refusals.specs.State.{call};
+ghost use Rattle.state.specs.State.{call};
 ghost use Rattle.sad.specs.Difference.{differenceOf, deltaOf};
 ghost use Rattle.satd.specs.Satd.{satdOf};
 ghost use Rattle.scale.specs.Scale.{factorAnswer};

@@ -12,7 +12,7 @@ use lib.Ieee.{Float}
 use lib.ListN.{length, take, drop, getD, drop-of-length-le, length-drop}
 use lib.Seq.{drop-cons, drop-drop, drop-length, take-nil}
 use Rattle.score.proofs.Window.{take-within}
-use Rattle.refusals.specs.State.{Call, call}
+use Rattle.state.specs.State.{Call, call}
 use Rattle.detector.specs.Step.{Outcome}
 use Rattle.detector.specs.Runs.{thenStep, runOf, callsOf}
 

@@ -12,7 +12,7 @@ use Rattle.score.specs.declared.Measure.{Measure}
 use Rattle.score.specs.Search.{anyOf}
 use Rattle.score.specs.Scores.{updatedFrom, scoreOf}
 use Rattle.score.specs.Costs.{forbidden, forbiddenEntry}
-use Rattle.refusals.proofs.Tests.{or-left, or-right}
+use Rattle.state.proofs.Tests.{or-left, or-right}
 use Rattle.detector.specs.Rules.{againOf, itemsOf}
 
 abbrev pub Sound : List ScenecutResult → Type 0

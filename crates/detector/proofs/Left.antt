@@ -11,10 +11,10 @@ use lib.ListN.{length}
 use Rattle.answer.specs.Answer.{Answer, gives, refused}
 use Rattle.settings.specs.Settings.{room, lookaheadOffset, isNone}
 use Rattle.score.specs.declared.ScenecutResult.{ScenecutResult}
-use Rattle.refusals.specs.State.{View, Call}
-use Rattle.refusals.specs.Refusals.{stepFault}
-use Rattle.refusals.proofs.Fine.{fine}
-use Rattle.refusals.proofs.Passes.{well, passes}
+use Rattle.state.specs.State.{View, Call}
+use Rattle.state.specs.Refusals.{stepFault}
+use Rattle.state.proofs.Fine.{fine}
+use Rattle.state.proofs.Passes.{well, passes}
 use Rattle.detector.specs.Step.{Verdict, acceptedOf, stepOf}
 use Rattle.detector.proofs.Reach.{scoreIn, accepted-passes}
 

@@ -21,11 +21,11 @@ use Rattle.score.specs.Deque.{noScore}
 use Rattle.score.specs.Search.{anyOf}
 use Rattle.score.specs.Scores.{scoreOf}
 use Rattle.score.specs.Costs.{forbidden}
-use Rattle.refusals.specs.State.{View, Call}
-use Rattle.refusals.specs.Refusals.{stateFault, stepFault}
-use Rattle.refusals.proofs.Tests.{or-right, and-right, and-both, positive}
-use Rattle.refusals.proofs.Fine.{Fine, fine, long}
-use Rattle.refusals.proofs.Passes.{Well, well, passes}
+use Rattle.state.specs.State.{View, Call}
+use Rattle.state.specs.Refusals.{stateFault, stepFault}
+use Rattle.state.proofs.Tests.{or-right, and-right, and-both, positive}
+use Rattle.state.proofs.Fine.{Fine, fine, long}
+use Rattle.state.proofs.Passes.{Well, well, passes}
 use Rattle.detector.specs.Rules.{Turn, againOf, itemsOf, rule7, nextOf}
 use Rattle.detector.specs.Step.{Verdict, Outcome, itemOf, progressOf, acceptedOf, stepOf}
 use Rattle.detector.specs.Fresh.{freshView}

@@ -5,7 +5,7 @@ use Rattle.answer.specs.Answer.{Answer, gives, refused}
 use Rattle.answer.specs.Unique.{OneOutcome}
 use Rattle.answer.proofs.Laws.{only}
 use Rattle.score.specs.declared.ScenecutResult.{ScenecutResult}
-use Rattle.refusals.specs.State.{View, view}
+use Rattle.state.specs.State.{View, view}
 use Rattle.detector.specs.declared.Stepped.{Stepped}
 use Rattle.detector.specs.declared.StepAnswer.{StepAnswer}
 use Rattle.detector.specs.declared.StepAnswer.the-variants.{Refused, Decided}

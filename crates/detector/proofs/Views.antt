@@ -10,9 +10,9 @@ use lib.Seq.{ext-getD, getD-take, length-take-le}
 use Rattle.settings.specs.Settings.{lookaheadOffset, isNone}
 use Rattle.score.specs.declared.ScoreDeque.{ScoreDeque}
 use Rattle.score.specs.Deque.{noScore, content}
-use Rattle.refusals.specs.State.{View, Call, view}
-use Rattle.refusals.specs.Refusals.{stateFault, stepFault}
-use Rattle.refusals.specs.declared.State.{State}
+use Rattle.state.specs.State.{View, Call, view}
+use Rattle.state.specs.Refusals.{stateFault, stepFault}
+use Rattle.state.specs.declared.State.{State}
 use Rattle.detector.specs.declared.Stepped.{Stepped}
 use Rattle.detector.specs.Step.{Outcome, outcome, acceptedOf, stepOf}
 

@@ -4,7 +4,7 @@ use mathlib.Core.List.{[]}
 use Prim.Native.Nat.{ℕ}
 use Rattle.settings.specs.declared.Settings.{Settings}
 use Rattle.settings.specs.Settings.{lookaheadOffset, settingsFault}
-use Rattle.refusals.specs.State.{View, view}
+use Rattle.state.specs.State.{View, view}
 use Rattle.detector.specs.declared.Opened.{Opened}
 
 abbrev pub freshView : Settings → View

@@ -8,7 +8,7 @@ use lib.Ieee.{Float}
 use Rattle.settings.specs.Settings.{room, setLimit}
 use Rattle.score.specs.declared.ScenecutResult.{ScenecutResult}
 use Rattle.score.specs.Deque.{content}
-use Rattle.refusals.specs.Refusals.{numberLimit}
+use Rattle.state.specs.Refusals.{numberLimit}
 use Rattle.detector.specs.declared.rules.Progress.{Progress}
 use Rattle.detector.specs.Rules.{Turn}
 

@@ -13,7 +13,7 @@ use Rattle.score.specs.declared.Measure.{Measure}
 use Rattle.score.specs.Deque.{trimmedTo}
 use Rattle.score.specs.Scores.{zeroF, scoreOf}
 use Rattle.score.specs.Cut.{cutOf}
-use Rattle.refusals.specs.State.{View}
+use Rattle.state.specs.State.{View}
 
 -- ---- 2. "L ≤ A: no cut, no score, o and the deque unchanged."
 

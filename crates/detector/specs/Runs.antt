@@ -4,7 +4,7 @@ use Prim.Native.Nat.{ℕ, _-_}
 use lib.ListN.{take, drop}
 use lib.Ieee.{Float}
 use Rattle.answer.specs.Answer.{Answer, gives, refused}
-use Rattle.refusals.specs.State.{Call, call}
+use Rattle.state.specs.State.{Call, call}
 use Rattle.detector.specs.Step.{Verdict, Outcome, stepOf}
 
 -- a refusal is handed on as it is; after a decision comes the next step

@@ -9,8 +9,8 @@ use Rattle.settings.specs.Settings.{isNone, isFast}
 use Rattle.score.specs.declared.ScenecutResult.{ScenecutResult}
 use Rattle.score.specs.declared.Measure.{Measure}
 use Rattle.score.specs.Deque.{noScore}
-use Rattle.refusals.specs.State.{View, Call, view}
-use Rattle.refusals.specs.Refusals.{stepFault}
+use Rattle.state.specs.State.{View, Call, view}
+use Rattle.state.specs.Refusals.{stepFault}
 use Rattle.detector.specs.declared.Stepped.{Stepped}
 use Rattle.detector.specs.declared.StepAnswer.{StepAnswer}
 use Rattle.detector.specs.declared.StepAnswer.the-variants.{Refused, Decided}

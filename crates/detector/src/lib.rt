@@ -2,12 +2,12 @@
 ghost use mathlib.Core.Path.{_≡_};
 ghost use Prim.Native.Nat.{_-_, max};
 ghost use Rattle.score.specs.Deque.{content};
-ghost use Rattle.refusals.specs.State.{view, call};
-ghost use Rattle.refusals.specs.Refusals.{stepFault};
+ghost use Rattle.state.specs.State.{view, call};
+ghost use Rattle.state.specs.Refusals.{stepFault};
 ghost use Rattle.detector.specs.Rules.{releaseReach, releases, nextOf};
 ghost use Rattle.detector.specs.Step.{outcome, bareOf, acceptedOf, stepOf};
 ghost use Rattle.detector.specs.Fresh.{freshView, opened, openedOf};
-use refusals::State;
+use state::State;
 use score::ScenecutResult;
 use score::ScoreDeque;
 use settings::Settings;
@@ -180,7 +180,7 @@ pub fn step(
     ensures { λ r. ⌜ outcome r ≡ stepOf (view s) (call length n p (now (inter .entry)) (now (importance .entry)) (now (threshold .entry))) ⌝ }
     ensures { λ r. ⌜ ((stepFault (view s) (call length n p (now (inter .entry)) (now (importance .entry)) (now (threshold .entry))) ≡ 0 → ⊥) → r .state ≡ s) ⌝ }
 {
-    let fault = refusals::step_fault(s, length, n, p, inter, importance, threshold);
+    let fault = state::step_fault(s, length, n, p, inter, importance, threshold);
     if fault != 0 {
         return Stepped {
             answer: StepAnswer::Refused(fault),

@@ -3,7 +3,7 @@ ghost use mathlib.Core.Path.{_≡_};
 ghost use Prim.Native.Nat.{_+_, _-_, _<_, _≤_};
 ghost use Rattle.settings.specs.Settings.{room, isFast, fastThreshold};
 ghost use Rattle.score.specs.Deque.{content, held, holding};
-ghost use Rattle.refusals.specs.Refusals.{numberLimit};
+ghost use Rattle.state.specs.Refusals.{numberLimit};
 ghost use Rattle.detector.specs.Rules.{measureOf, againOf, itemsOf, rule3, rule4, rule5, intervalOf, rule6};
 ghost use Rattle.detector.specs.Needs.{Covers, Startable, Ready, turn, turnAt};
 use score::Measure;

@@ -1,7 +1,7 @@
 // Steps one after the other. A caller takes the decision apart, and hands a refusal on.
 ghost use mathlib.Core.Path.{_≡_};
 ghost use lib.ListN.{take, drop};
-ghost use Rattle.refusals.specs.State.{call};
+ghost use Rattle.state.specs.State.{call};
 ghost use Rattle.detector.specs.Step.{outcome};
 ghost use Rattle.detector.specs.Runs.{thenStep, callsOf, runOf};
 use super::StepAnswer;
@@ -52,7 +52,7 @@ pub fn run(
     let calls = sums::lesser(numbers.len(), sums::lesser(lengths.len(), keyframes.len()));
     let mut last = before;
     for j in 0..calls {
-        let items = refusals::items_of(lengths[j]);
+        let items = state::items_of(lengths[j]);
         let ds = window(inter, j, items);
         let is = window(importance, j, items);
         let ts = window(threshold, j, items);

@@ -23,8 +23,8 @@ use Rattle.settings.specs.Settings.{isScaled, fastThreshold, importanceThreshol
 use Rattle.score.specs.Search.{anyOf, countOf}
 use Rattle.score.specs.Scores.{walkBack, backwardOf}
 use Rattle.score.specs.Cut.{cutOf}
-use Rattle.refusals.specs.Refusals.{stateFault, numberFault, lengthFault, stopFault, listsFault, stepFault}
-use Rattle.refusals.proofs.Tests.{and-both}
+use Rattle.state.specs.Refusals.{stateFault, numberFault, lengthFault, stopFault, listsFault, stepFault}
+use Rattle.state.proofs.Tests.{and-both}
 use Rattle.detector.specs.Step.{acceptedOf, stepOf}
 use Rattle.edges.specs.Rows.{Value, Row, same, allSame, Holds}
 use Rattle.edges.specs.Starred.{starred}

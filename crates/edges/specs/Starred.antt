@@ -18,7 +18,7 @@ use Rattle.score.specs.declared.ScenecutResult.{ScenecutResult}
 use Rattle.score.specs.Deque.{noScore, scoreFrom}
 use Rattle.score.specs.Search.{countOf}
 use Rattle.score.specs.Cut.{over, reached}
-use Rattle.refusals.specs.State.{call}
+use Rattle.state.specs.State.{call}
 use Rattle.detector.specs.Fresh.{freshView}
 use Rattle.detector.specs.Step.{Outcome, stepOf}
 use Rattle.edges.specs.Rows.{Value, number, truth, Row, realOf, ofAnswer, cutValue, scoreValue}

@@ -16,8 +16,8 @@ use Rattle.settings.specs.declared.Settings.{Settings}
 use Rattle.settings.specs.Settings.{room}
 use Rattle.score.specs.declared.ScenecutResult.{ScenecutResult}
 use Rattle.score.specs.Deque.{noScore}
-use Rattle.refusals.specs.State.{View, Call}
-use Rattle.refusals.proofs.Tests.{and-both}
+use Rattle.state.specs.State.{View, Call}
+use Rattle.state.proofs.Tests.{and-both}
 use Rattle.detector.specs.Fresh.{freshView}
 use Rattle.detector.specs.Step.{Verdict, Outcome, stepOf}
 use Rattle.detector.proofs.Reach.{scoreIn, score-stands}

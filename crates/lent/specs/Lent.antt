@@ -10,7 +10,7 @@ use Rattle.answer.specs.Refusal.{refusal, _orElse_}
 use Rattle.settings.specs.declared.Settings.{Settings}
 use Rattle.settings.specs.Settings.{settingsFault}
 use Rattle.score.specs.declared.ScenecutResult.{ScenecutResult}
-use Rattle.refusals.specs.State.{View, Call}
+use Rattle.state.specs.State.{View, Call}
 use Rattle.detector.specs.Fresh.{freshView}
 use Rattle.detector.specs.Step.{Verdict, Outcome, stepOf}
 use Rattle.lent.specs.Places.{settingsLong, isState, stateOf, settingNumbers, callNumbers, placed}

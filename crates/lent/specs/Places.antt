@@ -9,7 +9,7 @@ use Rattle.settings.specs.declared.Settings.{Settings}
 use Rattle.settings.specs.Settings.{room}
 use Rattle.score.specs.declared.ScenecutResult.{ScenecutResult}
 use Rattle.score.specs.Deque.{scoreFrom}
-use Rattle.refusals.specs.State.{View}
+use Rattle.state.specs.State.{View}
 
 -- ---- the sizes
 

@@ -10,11 +10,11 @@ use lib.Ieee.{Float}
 use lib.ListN.{take}
 use Rattle.settings.specs.declared.Settings.{Settings}
 use Rattle.settings.specs.Settings.{isFast, fastThreshold}
-use Rattle.refusals.specs.State.{View, Call, call, view}
-use Rattle.refusals.specs.Refusals.{listsFault, stepFault}
-use Rattle.refusals.specs.declared.State.{State}
-use Rattle.refusals.proofs.Fine.{fine}
-use Rattle.refusals.proofs.Tests.{positive}
+use Rattle.state.specs.State.{View, Call, call, view}
+use Rattle.state.specs.Refusals.{listsFault, stepFault}
+use Rattle.state.specs.declared.State.{State}
+use Rattle.state.proofs.Fine.{fine}
+use Rattle.state.proofs.Tests.{positive}
 use Rattle.detector.specs.declared.Stepped.{Stepped}
 use Rattle.detector.specs.Step.{Outcome, stepAnswer, outcome, acceptedOf, stepOf}
 use Rattle.detector.proofs.Views.{Alike, step-blind}

@@ -17,8 +17,8 @@ use Rattle.settings.specs.Settings.{normalLookahead, lookaheadOffset, isNone, i
 use Rattle.score.specs.declared.ScenecutResult.{ScenecutResult}
 use Rattle.score.specs.declared.Measure.{Measure}
 use Rattle.score.specs.Scores.{zeroF, scoreOf}
-use Rattle.refusals.specs.State.{View, Call}
-use Rattle.refusals.specs.Refusals.{stepFault}
+use Rattle.state.specs.State.{View, Call}
+use Rattle.state.specs.Refusals.{stepFault}
 use Rattle.detector.specs.Rules.{Turn, itemsOf, rule4, rule5}
 use Rattle.detector.specs.Step.{itemOf, progressOf, scoredOf, acceptedOf, stepOf}
 use Rattle.detector.specs.Fresh.{freshView}

@@ -11,10 +11,10 @@ use Rattle.answer.specs.Refusal.{_orElse_}
 use Rattle.answer.proofs.Laws.{or-none, passed}
 use Rattle.settings.specs.declared.Settings.{Settings}
 use Rattle.settings.specs.Settings.{setLimit, lookaheadOffset, settingsFault}
-use Rattle.refusals.specs.State.{View, Call}
-use Rattle.refusals.specs.Refusals.{stateFault, numberLimit, numberFault, lengthFault, stopFault, listsFault, stepFault}
-use Rattle.refusals.proofs.Tests.{or-left, or-right}
-use Rattle.refusals.proofs.Fine.{fine}
+use Rattle.state.specs.State.{View, Call}
+use Rattle.state.specs.Refusals.{stateFault, numberLimit, numberFault, lengthFault, stopFault, listsFault, stepFault}
+use Rattle.state.proofs.Tests.{or-left, or-right}
+use Rattle.state.proofs.Fine.{fine}
 use Rattle.detector.specs.Fresh.{freshView}
 use Rattle.detector.proofs.Reach.{step-passes, fresh-passes}
 use Rattle.meeting.specs.Films.{Film, callAt, runFrom}

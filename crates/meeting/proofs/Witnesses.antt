@@ -19,9 +19,9 @@ use Rattle.settings.specs.Settings.{normalLookahead, isFast, isScaled, fastThre
 use Rattle.score.specs.declared.Measure.{Measure}
 use Rattle.score.specs.Search.{anyOf}
 use Rattle.score.specs.Scores.{walkBack, backwardOf}
-use Rattle.refusals.specs.State.{View}
-use Rattle.refusals.specs.Refusals.{stateFault, numberFault, lengthFault, stopFault, listsFault, stepFault}
-use Rattle.refusals.proofs.Tests.{and-both}
+use Rattle.state.specs.State.{View}
+use Rattle.state.specs.Refusals.{stateFault, numberFault, lengthFault, stopFault, listsFault, stepFault}
+use Rattle.state.proofs.Tests.{and-both}
 use Rattle.detector.specs.Fresh.{freshView}
 use Rattle.detector.specs.Step.{acceptedOf, stepOf}
 use Rattle.meeting.specs.Films.{Film, callAt, runFrom, compared}

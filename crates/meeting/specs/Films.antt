@@ -6,7 +6,7 @@ use Rattle.answer.specs.Answer.{Answer}
 use Rattle.sums.specs.Table.{table}
 use Rattle.settings.specs.declared.Settings.{Settings}
 use Rattle.score.specs.declared.Measure.{Measure}
-use Rattle.refusals.specs.State.{View, Call, call}
+use Rattle.state.specs.State.{View, Call, call}
 use Rattle.detector.specs.Fresh.{freshView}
 use Rattle.detector.specs.Step.{Verdict, stepOf}
 

@@ -12,7 +12,7 @@ use Rattle.score.specs.declared.ScenecutResult.{ScenecutResult}
 use Rattle.score.specs.declared.Measure.{Measure}
 use Rattle.score.specs.Deque.{scoreFrom}
 use Rattle.score.specs.Scores.{zeroF, maxF, walkBack, forwardOf, fastScore}
-use Rattle.refusals.specs.State.{View}
+use Rattle.state.specs.State.{View}
 use Rattle.meeting.specs.Films.{Film}
 
 -- how many pairs on each side an adjusted cost is taken over: o, which is A

@@ -6,8 +6,8 @@ use mathlib.Core.Bool.{Bool, false, cond}
 use Prim.Native.Nat.{ℕ, _+_, _-_, _≤_, _<_}
 use Rattle.settings.specs.declared.Settings.{Settings}
 use Rattle.settings.specs.Settings.{normalLookahead, isNone, isFast}
-use Rattle.refusals.specs.State.{View, Call}
-use Rattle.refusals.specs.Refusals.{stepFault}
+use Rattle.state.specs.State.{View, Call}
+use Rattle.state.specs.Refusals.{stepFault}
 use Rattle.meeting.specs.Films.{Film, callAt, runFrom, answersTo, stateAfter, compared}
 
 -- Standard or Fast mode (every other number is refused), and a lookahead distance of at least 5

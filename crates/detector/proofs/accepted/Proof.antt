@@ -14,9 +14,9 @@ use Rattle.score.specs.declared.ScenecutResult.{ScenecutResult}
 use Rattle.settings.specs.Settings.{room, normalLookahead, lookaheadOffset, isNone, isFast}
 use Rattle.score.specs.Deque.{content, noScore, trimmedTo}
 use Rattle.score.proofs.Room.{long-min, entries-of}
-use Rattle.refusals.specs.State.{View, Call, view, call}
-use Rattle.refusals.proofs.Room.{state-room}
-use Rattle.refusals.proofs.Fine.{Shape, Fine, fine, long}
+use Rattle.state.specs.State.{View, Call, view, call}
+use Rattle.state.proofs.Room.{state-room}
+use Rattle.state.proofs.Fine.{Shape, Fine, fine, long}
 use Rattle.detector.specs.Step.{Outcome, itemOf, progressOf, bareOf, scoredOf, acceptedOf}
 use Rattle.detector.specs.Rules.{Turn, rule3, rule5, rule6, rule7, nextOf}
 use Rattle.detector.specs.Needs.{Covers, turn}

@@ -8,7 +8,7 @@ use borrow.Author.Needs.{needs}
 use lib.ListN.{take}
 use Rattle.answer.proofs.Laws.{lent-written, lent-kept}
 use Rattle.settings.specs.Settings.{settingsFault}
-use Rattle.refusals.specs.State.{View, view}
+use Rattle.state.specs.State.{View, view}
 use Rattle.detector.specs.Fresh.{Opening, freshView}
 use Rattle.lent.specs.Places.{settingsLong, isState, settingNumbers, callNumbers}
 use Rattle.lent.proofs.Sizes.{other-numbers, other-scores, both, fresh-other, fresh-state}

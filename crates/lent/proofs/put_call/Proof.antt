@@ -5,7 +5,7 @@ use native.Mathlib.Omega.{arith}
 use borrow.Author.Needs.{needs}
 use lib.ListN.{length-set, drop-of-length-le}
 use lib.Seq.{sets-eq}
-use Rattle.refusals.specs.State.{view}
+use Rattle.state.specs.State.{view}
 use Rattle.lent.specs.Places.{callNumbers}
 use Rattle.lent.proofs.put_call.Statement.{statement}
 use Rattle.lent.proofs.put_call.Tie as tie

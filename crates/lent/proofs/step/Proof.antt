@@ -3,7 +3,7 @@
 use mathlib.Core.Path.{_≡_, refl, ap, _∙_}
 use mathlib.Core.Bool.{true}
 use borrow.Author.Needs.{needs}
-use Rattle.refusals.specs.State.{View, Call, call}
+use Rattle.state.specs.State.{View, Call, call}
 use Rattle.detector.specs.Step.{outcome, stepOf}
 use Rattle.lent.specs.Places.{isState, stateOf}
 use Rattle.lent.proofs.Sizes.{other-numbers, other-scores, both}

@@ -11,7 +11,7 @@ use Rattle.settings.specs.Settings.{room, isFast, fastThreshold}
 use Rattle.score.specs.declared.ScenecutResult.{ScenecutResult}
 use Rattle.score.specs.Deque.{content}
 use Rattle.score.proofs.Room.{roomy, long, entries-of, count-of, exact-of}
-use Rattle.refusals.proofs.Tests.{and-both, positive}
+use Rattle.state.proofs.Tests.{and-both, positive}
 use Rattle.detector.specs.Rules.{measureOf, itemsOf}
 use Rattle.detector.proofs.Long.{items-long}
 use native.Mathlib.Omega.{arith}

@@ -4,7 +4,7 @@ use mathlib.Core.Path.{_≡_, sym, _∙_, ap}
 use Prim.Native.Nat.{_+_, _-_, _≤_}
 use denote.Ref.{now}
 use lib.ListN.{take, drop, getD}
-use Rattle.refusals.specs.State.{Call, call}
+use Rattle.state.specs.State.{Call, call}
 use Rattle.detector.specs.Step.{Outcome, outcome}
 use Rattle.detector.specs.Runs.{thenStep, callsOf, runOf}
 use Rattle.detector.proofs.Calls.{left, run-more, run-end, calls-start, calls-more, calls-end}

@@ -4,11 +4,11 @@ use mathlib.Core.Path.{_≡_, sym, _∙_, ap}
 use Prim.Native.Nat.{ℕ}
 use denote.Ref.{now}
 use Rattle.answer.proofs.Laws.{or-given, or-later}
-use Rattle.refusals.specs.State.{view}
-use Rattle.refusals.specs.Refusals.{stateFault, numberFault, lengthFault, stopFault, listsFault, stepFault}
+use Rattle.state.specs.State.{view}
+use Rattle.state.specs.Refusals.{stateFault, numberFault, lengthFault, stopFault, listsFault, stepFault}
 use borrow.Author.Needs.{needs}
-use Rattle.refusals.proofs.step_fault.Statement.{statement}
-use Rattle.refusals.proofs.step_fault.Tie as tie
+use Rattle.state.proofs.step_fault.Statement.{statement}
+use Rattle.state.proofs.step_fault.Tie as tie
 
 -- the start, from the place where the state is not refused; and where the number is not, from where 8 and 9 are known
 abbrev start : tie.Else1 → tie.Start

@@ -5,7 +5,7 @@ use lib.Ieee.{Float}
 use Rattle.settings.specs.declared.Settings.{Settings}
 use Rattle.score.specs.declared.ScenecutResult.{ScenecutResult}
 use Rattle.score.specs.Deque.{content}
-use Rattle.refusals.specs.declared.State.{State}
+use Rattle.state.specs.declared.State.{State}
 
 -- the settings, the entries with the front first, the offset o, and the last accepted call's number and length, the first one's
 -- number and the release number

@@ -2,10 +2,10 @@
 -- Assumes nothing.
 use mathlib.Core.Path.{sym, _∙_}
 use borrow.Author.Tests.{ne-eqb}
-use Rattle.refusals.specs.Refusals.{listsFault}
+use Rattle.state.specs.Refusals.{listsFault}
 use borrow.Author.Needs.{needs}
-use Rattle.refusals.proofs.lists_fault.Statement.{statement}
-use Rattle.refusals.proofs.lists_fault.Tie as tie
+use Rattle.state.proofs.lists_fault.Statement.{statement}
+use Rattle.state.proofs.lists_fault.Tie as tie
 
 returns : tie.Need-returns
 unfolding listsFault

@@ -1,8 +1,8 @@
 -- `bad_shape` meets its contract: its tests are the definition's, over what the settings give.
 -- Assumes nothing.
 use borrow.Author.Needs.{needs}
-use Rattle.refusals.proofs.bad_shape.Statement.{statement}
-use Rattle.refusals.proofs.bad_shape.Tie as tie
+use Rattle.state.proofs.bad_shape.Statement.{statement}
+use Rattle.state.proofs.bad_shape.Tie as tie
 
 fault-requires : tie.Need-fault-requires
 fault-requires c κs = search needs

@@ -13,9 +13,9 @@ use denote.Laws.{Is}
 use Rattle.settings.specs.declared.Settings.{Settings}
 use Rattle.settings.specs.Settings.{room}
 use Rattle.score.proofs.Room.{roomy}
-use Rattle.refusals.specs.declared.State.{State}
-use Rattle.refusals.specs.Refusals.{badShape}
-use Rattle.refusals.proofs.State as state
+use Rattle.state.specs.declared.State.{State}
+use Rattle.state.specs.Refusals.{badShape}
+use Rattle.state.proofs.State as state
 
 pub state-room : (s : State) (vs : List Val) → Is state.the-row s vs → length (s .deque .entries) ≡ room
 state-room s vs g = roomy (s .deque) _ (g .1 .1 .1 .0)

@@ -14,9 +14,9 @@ use Rattle.settings.specs.declared.Settings.{Settings}
 use Rattle.settings.specs.Settings.{room, setLimit, normalLookahead, lookaheadOffset, isNone, isFast, settingsFault}
 use Rattle.score.specs.Search.{anyOf}
 use Rattle.score.specs.Costs.{forbidden, forbiddenEntry}
-use Rattle.refusals.specs.State.{View, Call}
-use Rattle.refusals.specs.Refusals.{badShape, badList, stateFault, numberLimit, numberFault, lengthFault, stopFault, listsFault, stepFault}
-use Rattle.refusals.proofs.Tests.{or-left, or-right, and-right, not-eqb}
+use Rattle.state.specs.State.{View, Call}
+use Rattle.state.specs.Refusals.{badShape, badList, stateFault, numberLimit, numberFault, lengthFault, stopFault, listsFault, stepFault}
+use Rattle.state.proofs.Tests.{or-left, or-right, and-right, not-eqb}
 
 pub record Shape (g : Settings) (count o : ℕ) : Type 0 where
   pub settled : settingsFault g ≡ 0

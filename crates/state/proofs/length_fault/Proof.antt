@@ -1,8 +1,8 @@
 -- `length_fault` meets its contract: its test is the definition's.
 -- Assumes nothing.
-use Rattle.refusals.specs.Refusals.{lengthFault}
-use Rattle.refusals.proofs.length_fault.Statement.{statement}
-use Rattle.refusals.proofs.length_fault.Tie as tie
+use Rattle.state.specs.Refusals.{lengthFault}
+use Rattle.state.proofs.length_fault.Statement.{statement}
+use Rattle.state.proofs.length_fault.Tie as tie
 
 returns : tie.Need-returns
 unfolding lengthFault

@@ -2,10 +2,10 @@
 use mathlib.Core.Path.{sym, _∙_}
 use Prim.Native.Nat.{ℕ}
 use Rattle.answer.specs.Unique.{OneOutcome}
-use Rattle.refusals.proofs.items_of.Kinds as items-of-kinds
-use Rattle.refusals.proofs.items_of.Reads as items-of-reads
-use Rattle.refusals.proofs.step_fault.Kinds as step-fault-kinds
-use Rattle.refusals.proofs.step_fault.Reads as step-fault-reads
+use Rattle.state.proofs.items_of.Kinds as items-of-kinds
+use Rattle.state.proofs.items_of.Reads as items-of-reads
+use Rattle.state.proofs.step_fault.Kinds as step-fault-kinds
+use Rattle.state.proofs.step_fault.Reads as step-fault-reads
 
 pub items-of-unique : OneOutcome 0 items-of-kinds.ps items-of-kinds.r ℕ (λ κs r e. r) items-of-reads.Post
 unfolding OneOutcome

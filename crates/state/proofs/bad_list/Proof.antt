@@ -3,8 +3,8 @@
 use mathlib.Core.Path.{_∙_, refl}
 use borrow.Author.Tests.{eq-eqb, ne-eqb}
 use borrow.Author.Needs.{needs}
-use Rattle.refusals.proofs.bad_list.Statement.{statement}
-use Rattle.refusals.proofs.bad_list.Tie as tie
+use Rattle.state.proofs.bad_list.Statement.{statement}
+use Rattle.state.proofs.bad_list.Tie as tie
 
 returns : tie.Need-returns
 returns c = rw (ne-eqb _ _ (c .if1 .taken))

@@ -10,8 +10,8 @@ use Rattle.score.specs.Costs.{forbidden}
 use Rattle.score.proofs.Counts.{any-end, any-more}
 use borrow.Author.Needs.{needs}
 use native.Mathlib.Omega.{arith}
-use Rattle.refusals.proofs.any_forbidden.Statement.{statement}
-use Rattle.refusals.proofs.any_forbidden.Tie as tie
+use Rattle.state.proofs.any_forbidden.Statement.{statement}
+use Rattle.state.proofs.any_forbidden.Tie as tie
 
 abbrev Inv-loop : tie.InvT-loop
 Inv-loop nan-allowed list i₀ i-end i = (i ≤ length list) × ((i-end ≡ length list) × (anyOf (forbidden nan-allowed) list ≡ anyOf (forbidden nan-allowed) (drop i list)))

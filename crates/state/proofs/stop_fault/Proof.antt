@@ -1,9 +1,9 @@
 -- `stop_fault` meets its contract: its test is the definition's, over the offset that the settings give.
 -- Assumes nothing.
-use Rattle.refusals.specs.Refusals.{stopFault}
+use Rattle.state.specs.Refusals.{stopFault}
 use borrow.Author.Needs.{needs}
-use Rattle.refusals.proofs.stop_fault.Statement.{statement}
-use Rattle.refusals.proofs.stop_fault.Tie as tie
+use Rattle.state.proofs.stop_fault.Statement.{statement}
+use Rattle.state.proofs.stop_fault.Tie as tie
 
 lookahead-offset-requires : tie.Need-lookahead-offset-requires
 lookahead-offset-requires c κs = search needs

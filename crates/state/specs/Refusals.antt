@@ -10,7 +10,7 @@ use Rattle.settings.specs.declared.Settings.{Settings}
 use Rattle.settings.specs.Settings.{room, setLimit, normalLookahead, lookaheadOffset, isNone, isFast, settingsFault}
 use Rattle.score.specs.Search.{anyOf}
 use Rattle.score.specs.Costs.{forbidden, forbiddenEntry}
-use Rattle.refusals.specs.State.{View, Call}
+use Rattle.state.specs.State.{View, Call}
 
 -- 11: "over 15 entries, over 10 if A = 5": 15 is one less than the room, and 10 is 5 + A
 abbrev pub tooMany : Settings → ℕ → Bool

@@ -5,11 +5,11 @@ use lib.ListN.{length}
 use Rattle.settings.specs.Settings.{room}
 use Rattle.score.specs.Deque.{content}
 use Rattle.score.proofs.Room.{long-min}
-use Rattle.refusals.specs.Refusals.{badShape, stateFault}
-use Rattle.refusals.proofs.Room.{state-room, shape-min}
+use Rattle.state.specs.Refusals.{badShape, stateFault}
+use Rattle.state.proofs.Room.{state-room, shape-min}
 use borrow.Author.Needs.{needs}
-use Rattle.refusals.proofs.state_fault.Statement.{statement}
-use Rattle.refusals.proofs.state_fault.Tie as tie
+use Rattle.state.proofs.state_fault.Statement.{statement}
+use Rattle.state.proofs.state_fault.Tie as tie
 
 same : (c : tie.After-bad-shape)
     → badShape (c .before .before .before .args .s .settings) (length (content (c .before .before .before .args .s .deque))) (c .before .before .before .args .s .offset)

@@ -12,10 +12,10 @@ use Rattle.settings.specs.declared.Settings.{Settings}
 use Rattle.settings.specs.Settings.{room, normalLookahead, lookaheadOffset, settingsFault}
 use Rattle.score.specs.Search.{anyOf}
 use Rattle.score.specs.Costs.{forbiddenEntry}
-use Rattle.refusals.specs.State.{View}
-use Rattle.refusals.specs.Refusals.{badShape, stateFault}
-use Rattle.refusals.proofs.Tests.{or-left, or-right, positive}
-use Rattle.refusals.proofs.Fine.{Shape, shape}
+use Rattle.state.specs.State.{View}
+use Rattle.state.specs.Refusals.{badShape, stateFault}
+use Rattle.state.proofs.Tests.{or-left, or-right, positive}
+use Rattle.state.proofs.Fine.{Shape, shape}
 
 neither : (a b : Bool) → a ≡ false → b ≡ false → a || b ≡ false
 neither a b p q = rw (p, q)
