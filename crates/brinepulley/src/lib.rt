@@ -22,7 +22,7 @@ mod code;
 pub extern "C" fn brine_scale_factor(width: usize, height: usize, mode: u32) -> i64
     ensures { λ r. ⌜ r ≡ coded (factorAnswer width height mode) ⌝ }
 {
-    code::whole(scale::detect_scale_factor(width, height, mode))
+    code::whole(scale::detect_scale_factor(width, height, mode as u64))
 }
 
 // The sum of absolute differences of two planes.
@@ -54,7 +54,7 @@ pub extern "C" fn brine_plane_difference(
         stride: stride2,
         origin: origin2,
     };
-    code::whole(sad::plane_difference(depth, p, first, q, second))
+    code::whole(sad::plane_difference(depth as u64, p, first, q, second))
 }
 
 // The importance total of two planes, before the division.
@@ -86,7 +86,7 @@ pub extern "C" fn brine_importance_total(
         stride: stride2,
         origin: origin2,
     };
-    code::whole(importance::importance_total(depth, p, first, q, second))
+    code::whole(importance::importance_total(depth as u64, p, first, q, second))
 }
 
 // The plane difference over width × height: 0, and the quotient in `delta`.
@@ -120,7 +120,7 @@ pub extern "C" fn brine_delta(
         stride: stride2,
         origin: origin2,
     };
-    code::put(sad::delta_in_planes(depth, p, first, q, second), delta)
+    code::put(sad::delta_in_planes(depth as u64, p, first, q, second), delta)
 }
 
 // The importance of two planes: 0, and the quotient in `importance`, a NaN where no block is whole.
@@ -155,7 +155,7 @@ pub extern "C" fn brine_importance(
         origin: origin2,
     };
     code::put(
-        importance::importance(depth, p, first, q, second),
+        importance::importance(depth as u64, p, first, q, second),
         importance,
     )
 }
@@ -192,7 +192,7 @@ pub extern "C" fn brine_intra_costs(
         stride: stride2,
         origin: origin2,
     };
-    code::whole(intra::estimate_intra_costs(depth, p, samples, w, work, costs))
+    code::whole(intra::estimate_intra_costs(depth as u64, p, samples, w, work, costs))
 }
 
 // The threshold of the first `count` costs: 0, and the threshold in its place.

@@ -8,9 +8,9 @@ use settings::Settings;
 
 const OUT: i32 = 1;
 
-const DEPTH: u32 = 8;
+const DEPTH: u64 = 8;
 
-const MODE_FAST: u32 = 1;
+const MODE_FAST: u64 = 1;
 
 const STANDARD: u64 = 2;
 

@@ -82,7 +82,7 @@ fn all_differences(p: Plane, a: &[u8], q: Plane, b: &[u8]) -> u64
 }
 
 // The importance total of two planes, before the division.
-pub fn importance_total(depth: u32, p: Plane, a: &[u8], q: Plane, b: &[u8]) -> Whole
+pub fn importance_total(depth: u64, p: Plane, a: &[u8], q: Plane, b: &[u8]) -> Whole
     ensures { λ r. ⌜ wholeAnswer r ≡ totalOf depth p (now (a .entry)) q (now (b .entry)) ⌝ }
 {
     let fault = plane::pair_fault(depth, p, a.len(), q, b.len());
@@ -93,7 +93,7 @@ pub fn importance_total(depth: u32, p: Plane, a: &[u8], q: Plane, b: &[u8]) -> W
 }
 
 // The importance of two planes: the total over the number of blocks, and with no block a NaN.
-pub fn importance(depth: u32, p: Plane, a: &[u8], q: Plane, b: &[u8]) -> Real
+pub fn importance(depth: u64, p: Plane, a: &[u8], q: Plane, b: &[u8]) -> Real
     ensures { λ r. ⌜ realAnswer r ≡ importanceOf depth p (now (a .entry)) q (now (b .entry)) ⌝ }
 {
     let fault = plane::pair_fault(depth, p, a.len(), q, b.len());

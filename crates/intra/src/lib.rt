@@ -114,7 +114,7 @@ fn all_costs(p: Plane, s: &[u8], w: Plane, work: &mut [u8], costs: &mut [u32])
 }
 
 // The refusal of intra costs, or 0: of the depth and the two planes, and 4 for a list with no room for the costs.
-fn intra_fault(depth: u32, p: Plane, n: usize, w: Plane, m: usize, room: usize) -> u32
+fn intra_fault(depth: u64, p: Plane, n: usize, w: Plane, m: usize, room: usize) -> u32
     ensures { λ r. ⌜ r ≡ intraFault depth p n w m room ⌝ }
 {
     let fault = plane::pair_fault(depth, p, n, w, m);
@@ -130,7 +130,7 @@ fn intra_fault(depth: u32, p: Plane, n: usize, w: Plane, m: usize, room: usize) 
 // The intra costs of a plane: the number of its whole blocks. Each block of the lent work plane is filled with the
 // prediction, and each block's cost goes to the lent list, in row order. A refused call writes nothing.
 pub fn estimate_intra_costs(
-    depth: u32,
+    depth: u64,
     p: Plane,
     s: &[u8],
     w: Plane,

@@ -8,7 +8,7 @@ ghost use Rattle.plane.specs.Planes.{badSide, rowEnd, rowOf, planeFault,
 const MAX_SIDE: usize = 8192;
 
 // The only depth so far.
-const DEPTH: u32 = 8;
+const DEPTH: u64 = 8;
 
 // A plane over lent samples: sample (x, y) is at origin + y * stride + x.
 pub struct Plane {
@@ -89,7 +89,7 @@ impl Plane {
 }
 
 // Refusal 5, for a depth other than 8, or 0.
-pub fn depth_fault(depth: u32) -> u32
+pub fn depth_fault(depth: u64) -> u32
     ensures { λ r. ⌜ r ≡ depthFault depth ⌝ }
 {
     if depth == DEPTH { 0 } else { 5 }
@@ -115,7 +115,7 @@ fn sizes_fault(p: Plane, n: usize, q: Plane, m: usize) -> u32
 }
 
 // The refusal of a measure of two planes, or 0: of the depth first, then of the planes.
-pub fn pair_fault(depth: u32, p: Plane, n: usize, q: Plane, m: usize) -> u32
+pub fn pair_fault(depth: u64, p: Plane, n: usize, q: Plane, m: usize) -> u32
     ensures { λ r. ⌜ r ≡ pairFault depth p n q m ⌝ }
 {
     let fault = depth_fault(depth);

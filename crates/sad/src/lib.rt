@@ -70,7 +70,7 @@ fn sad_plane(p: Plane, a: &[u8], q: Plane, b: &[u8]) -> u64
 }
 
 // The sum of absolute differences of two planes over their visible samples.
-pub fn plane_difference(depth: u32, p: Plane, a: &[u8], q: Plane, b: &[u8]) -> Whole
+pub fn plane_difference(depth: u64, p: Plane, a: &[u8], q: Plane, b: &[u8]) -> Whole
     ensures { λ r. ⌜ wholeAnswer r ≡ differenceOf depth p (now (a .entry)) q (now (b .entry)) ⌝ }
 {
     let fault = plane::pair_fault(depth, p, a.len(), q, b.len());
@@ -81,7 +81,7 @@ pub fn plane_difference(depth: u32, p: Plane, a: &[u8], q: Plane, b: &[u8]) -> W
 }
 
 // The plane difference over width × height, in a float.
-pub fn delta_in_planes(depth: u32, p: Plane, a: &[u8], q: Plane, b: &[u8]) -> Real
+pub fn delta_in_planes(depth: u64, p: Plane, a: &[u8], q: Plane, b: &[u8]) -> Real
     ensures { λ r. ⌜ realAnswer r ≡ deltaOf depth p (now (a .entry)) q (now (b .entry)) ⌝ }
 {
     let fault = plane::pair_fault(depth, p, a.len(), q, b.len());

@@ -5,9 +5,9 @@ ghost use Rattle.answer.specs.Answer.{wholeAnswer};
 ghost use Rattle.scale.specs.Scale.{factorBy, scaleOf, sizeFault, factorAnswer, sidesAnswer, reducedSides};
 
 // The modes (SceneDetectionSpeed) by their numbers: 0 is None and 2 is Standard.
-const FAST: u32 = 1;
+const FAST: u64 = 1;
 
-const STANDARD: u32 = 2;
+const STANDARD: u64 = 2;
 
 // The sides of a frame as Fast mode compares it, or the number of the refusal.
 pub enum Sides {
@@ -30,7 +30,7 @@ fn factor_by(small_edge: usize) -> usize
 }
 
 // The factor of a size and a mode that are not refused: Fast mode alone scales.
-fn factor(width: usize, height: usize, mode: u32) -> usize
+fn factor(width: usize, height: usize, mode: u64) -> usize
     ensures { λ r. ⌜ r ≡ scaleOf width height mode ⌝ }
 {
     if mode != FAST {
@@ -43,7 +43,7 @@ fn factor(width: usize, height: usize, mode: u32) -> usize
 }
 
 // Refusal 6 of a resolution and a mode, or 0.
-pub fn size_fault(width: usize, height: usize, mode: u32) -> u32
+pub fn size_fault(width: usize, height: usize, mode: u64) -> u32
     ensures { λ r. ⌜ r ≡ sizeFault width height mode ⌝ }
 {
     if plane::bad_side(width) | plane::bad_side(height) | (STANDARD < mode) {
@@ -53,7 +53,7 @@ pub fn size_fault(width: usize, height: usize, mode: u32) -> u32
 }
 
 // The factor that Fast mode scales a frame by, 1 for none.
-pub fn detect_scale_factor(width: usize, height: usize, mode: u32) -> Whole
+pub fn detect_scale_factor(width: usize, height: usize, mode: u64) -> Whole
     ensures { λ r. ⌜ wholeAnswer r ≡ factorAnswer width height mode ⌝ }
 {
     let fault = size_fault(width, height, mode);
@@ -64,7 +64,7 @@ pub fn detect_scale_factor(width: usize, height: usize, mode: u32) -> Whole
 }
 
 // The sides divided by the factor, rounded down.
-pub fn reduced_sides(width: usize, height: usize, mode: u32) -> Sides
+pub fn reduced_sides(width: usize, height: usize, mode: u64) -> Sides
     ensures { λ r. ⌜ sidesAnswer r ≡ reducedSides width height mode ⌝ }
 {
     let fault = size_fault(width, height, mode);

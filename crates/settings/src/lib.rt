@@ -1,15 +1,7 @@
 // The settings of a detector, as `SceneChangeDetector` of analyze.rs has them, and the numbers that follow from them alone.
 ghost use mathlib.Core.Path.{_≡_};
-ghost use Prim.Native.Nat.{min};
 ghost use Rattle.settings.specs.Settings.{lookaheadOffset, fastThreshold, importanceThreshold, isScaled, settingsFault};
 use answer::Whole;
-
-// A mode or a depth in 32 bits. Larger numbers than 255 become 255, which is neither a mode nor a depth.
-fn narrow(n: u64) -> u32
-    ensures { λ r. ⌜ r ≡ min n 255 ⌝ }
-{
-    if n <= 255 { n as u32 } else { 255 }
-}
 
 pub struct Settings {
     pub width: usize,
@@ -49,18 +41,18 @@ impl Settings {
     pub fn fault(self) -> u32
         ensures { λ r. ⌜ r ≡ settingsFault self ⌝ }
     {
-        let size = scale::size_fault(self.width, self.height, narrow(self.mode));
+        let size = scale::size_fault(self.width, self.height, self.mode);
         if size != 0 {
             return size;
         }
-        plane::depth_fault(narrow(self.bit_depth))
+        plane::depth_fault(self.bit_depth)
     }
 
     // Whether frames are reduced before they are compared.
     pub fn scaled(self) -> bool
         ensures { λ r. ⌜ r ≡ isScaled self ⌝ }
     {
-        let answer = scale::detect_scale_factor(self.width, self.height, narrow(self.mode));
+        let answer = scale::detect_scale_factor(self.width, self.height, self.mode);
         let Whole::Number(factor) = answer else {
             return false;
         };
