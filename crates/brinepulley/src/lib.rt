@@ -120,7 +120,10 @@ pub extern "C" fn brine_delta(
         stride: stride2,
         origin: origin2,
     };
-    code::put(sad::delta_in_planes(depth as u64, p, first, q, second), delta)
+    code::put(
+        sad::delta_in_planes(depth as u64, p, first, q, second),
+        delta,
+    )
 }
 
 // The importance of two planes: 0, and the quotient in `importance`, a NaN where no block is whole.

@@ -7,10 +7,10 @@ ghost use Rattle.state.specs.Refusals.{stepFault};
 ghost use Rattle.detector.specs.Rules.{releaseReach, releases, nextOf};
 ghost use Rattle.detector.specs.Step.{outcome, bareOf, acceptedOf, stepOf};
 ghost use Rattle.detector.specs.Fresh.{freshView, opened, openedOf};
-use state::State;
 use score::ScenecutResult;
 use score::ScoreDeque;
 use settings::Settings;
+use state::State;
 
 mod rules;
 pub mod runs;

@@ -10,10 +10,10 @@ ghost use Rattle.lent.specs.Places.{numbersLong, settingsLong, scoreLong
 ghost use Rattle.lent.specs.Lent.{freshFault, freshNumbers, lentStep, numbersAfter, scoresAfter};
 use detector::Decision;
 use detector::StepAnswer;
-use state::State;
 use score::ScenecutResult;
 use score::ScoreDeque;
 use settings::Settings;
+use state::State;
 
 // How many numbers a state has, how many doubles a score, and how many doubles all scores.
 const NUMBERS: usize = 13;
