@@ -8,7 +8,7 @@ use denote.Triple.Clauses.{AtExit}
 
 -- `post` is what a function's contract promises of its result and of its parameters at exit, and `seen` is what of them is compared.
 -- From one set of arguments the contract allows one such outcome alone.
-unfoldable pub OneOutcome : (n : ℕ) (ps : List (PK n)) (r : RK n) (S : Type 0)
+abbrev pub OneOutcome : (n : ℕ) (ps : List (PK n)) (r : RK n) (S : Type 0)
     → ((κs : Lfts n) → resT r κs .Denot → AtExit (endedOf n ps r) κs → S)
     → Out n ps r → Type 0
 OneOutcome n ps r S seen post =

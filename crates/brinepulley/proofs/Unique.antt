@@ -38,41 +38,32 @@ same {A} r r′ y y′ p q = ap₂ (λ (z : ℤ) (a : A). (z, a)) (p .0 ∙ sym 
 -- ---- no lent place is written
 
 pub scale-factor-unique : OneOutcome 0 scale-factor-kinds.ps scale-factor-kinds.r ℤ (λ κs r e. r) scale-factor-reads.Post
-unfolding OneOutcome
 scale-factor-unique κs a r r′ e e′ p q = p ∙ sym q
 
 pub plane-difference-unique : OneOutcome 2 plane-difference-kinds.ps plane-difference-kinds.r ℤ (λ κs r e. r) plane-difference-reads.Post
-unfolding OneOutcome
 plane-difference-unique κs a r r′ e e′ p q = p ∙ sym q
 
 pub importance-total-unique : OneOutcome 2 importance-total-kinds.ps importance-total-kinds.r ℤ (λ κs r e. r) importance-total-reads.Post
-unfolding OneOutcome
 importance-total-unique κs a r r′ e e′ p q = p ∙ sym q
 
 pub satd8x8-unique : OneOutcome 2 satd8x8-kinds.ps satd8x8-kinds.r ℤ (λ κs r e. r) satd8x8-reads.Post
-unfolding OneOutcome
 satd8x8-unique κs a r r′ e e′ p q = p ∙ sym q
 
 -- ---- one lent place is written
 
 pub delta-unique : OneOutcome 3 delta-kinds.ps delta-kinds.r (ℤ × Float) (λ κs r e. (r, now (e .1 .1 .1 .1 .1 .1 .1 .1 .1 .1 .1 .0))) delta-reads.Post
-unfolding OneOutcome
 delta-unique κs a r r′ e e′ p q = same r r′ (now (e .1 .1 .1 .1 .1 .1 .1 .1 .1 .1 .1 .0)) (now (e′ .1 .1 .1 .1 .1 .1 .1 .1 .1 .1 .1 .0)) p q
 
 pub importance-unique : OneOutcome 3 importance-kinds.ps importance-kinds.r (ℤ × Float) (λ κs r e. (r, now (e .1 .1 .1 .1 .1 .1 .1 .1 .1 .1 .1 .0))) importance-reads.Post
-unfolding OneOutcome
 importance-unique κs a r r′ e e′ p q = same r r′ (now (e .1 .1 .1 .1 .1 .1 .1 .1 .1 .1 .1 .0)) (now (e′ .1 .1 .1 .1 .1 .1 .1 .1 .1 .1 .1 .0)) p q
 
 pub threshold-unique : OneOutcome 2 threshold-kinds.ps threshold-kinds.r (ℤ × Float) (λ κs r e. (r, now (e .1 .1 .0))) threshold-reads.Post
-unfolding OneOutcome
 threshold-unique κs a r r′ e e′ p q = same r r′ (now (e .1 .1 .0)) (now (e′ .1 .1 .0)) p q
 
 pub hadamard4x4-unique : OneOutcome 1 hadamard4x4-kinds.ps hadamard4x4-kinds.r (ℤ × List ℤ) (λ κs r e. (r, now (e .0))) hadamard4x4-reads.Post
-unfolding OneOutcome
 hadamard4x4-unique κs a r r′ e e′ p q = same r r′ (now (e .0)) (now (e′ .0)) p q
 
 pub hadamard8x8-unique : OneOutcome 1 hadamard8x8-kinds.ps hadamard8x8-kinds.r (ℤ × List ℤ) (λ κs r e. (r, now (e .0))) hadamard8x8-reads.Post
-unfolding OneOutcome
 hadamard8x8-unique κs a r r′ e e′ p q = same r r′ (now (e .0)) (now (e′ .0)) p q
 
 -- ---- two lent places are written
@@ -86,13 +77,10 @@ both r r′ a a′ b b′ p q =
     rw (numbers, firsts, seconds)
 
 pub intra-costs-unique : OneOutcome 3 intra-costs-kinds.ps intra-costs-kinds.r (ℤ × List ℕ × List ℕ) (λ κs r e. (r, now (e .1 .1 .1 .1 .1 .1 .0), now (e .1 .1 .1 .1 .1 .1 .1 .1 .1 .1 .1 .0))) intra-costs-reads.Post
-unfolding OneOutcome
 intra-costs-unique κs a r r′ e e′ p q = both r r′ (now (e .1 .1 .1 .1 .1 .1 .0)) (now (e′ .1 .1 .1 .1 .1 .1 .0)) (now (e .1 .1 .1 .1 .1 .1 .1 .1 .1 .1 .1 .0)) (now (e′ .1 .1 .1 .1 .1 .1 .1 .1 .1 .1 .1 .0)) p q
 
 pub detector-fresh-unique : OneOutcome 2 detector-fresh-kinds.ps detector-fresh-kinds.r (ℤ × List ℕ × List Float) (λ κs r e. (r, now (e .1 .1 .1 .1 .1 .1 .1 .0), now (e .1 .1 .1 .1 .1 .1 .1 .1 .0))) detector-fresh-reads.Post
-unfolding OneOutcome
 detector-fresh-unique κs a r r′ e e′ p q = both r r′ (now (e .1 .1 .1 .1 .1 .1 .1 .0)) (now (e′ .1 .1 .1 .1 .1 .1 .1 .0)) (now (e .1 .1 .1 .1 .1 .1 .1 .1 .0)) (now (e′ .1 .1 .1 .1 .1 .1 .1 .1 .0)) p q
 
 pub detector-step-unique : OneOutcome 5 detector-step-kinds.ps detector-step-kinds.r (ℤ × List ℕ × List Float) (λ κs r e. (r, now (e .0), now (e .1 .0))) detector-step-reads.Post
-unfolding OneOutcome
 detector-step-unique κs a r r′ e e′ p q = both r r′ (now (e .0)) (now (e′ .0)) (now (e .1 .0)) (now (e′ .1 .0)) p q

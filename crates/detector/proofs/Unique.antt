@@ -53,17 +53,13 @@ same-seen r s e =
     rw (a, v)
 
 pub fresh-unique : OneOutcome 0 fresh-kinds.ps fresh-kinds.r Opening (λ κs r e. opened r) fresh-reads.Post
-unfolding OneOutcome
 fresh-unique κs a r r′ e e′ p q = p ∙ sym q
 
 pub step-unique : OneOutcome 3 step-kinds.ps step-kinds.r (StepAnswer × View) (λ κs r e. seen r) step-reads.Post
-unfolding OneOutcome
 step-unique κs a r r′ e e′ p q = same-seen r r′ (p .0 ∙ sym (q .0))
 
 pub then-step-unique : OneOutcome 3 then-step-kinds.ps then-step-kinds.r (StepAnswer × View) (λ κs r e. seen r) then-step-reads.Post
-unfolding OneOutcome
 then-step-unique κs a r r′ e e′ p q = same-seen r r′ (p ∙ sym q)
 
 pub run-unique : OneOutcome 6 run-kinds.ps run-kinds.r (StepAnswer × View) (λ κs r e. seen r) run-reads.Post
-unfolding OneOutcome
 run-unique κs a r r′ e e′ p q = same-seen r r′ (p ∙ sym q)

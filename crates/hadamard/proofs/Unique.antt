@@ -15,9 +15,7 @@ same : {f : ℕ} {l : List ℤ} (r r′ : ℕ) (x x′ : List ℤ) → (r ≡ f)
 same r r′ x x′ p q = ap₂ (λ (n : ℕ) (l : List ℤ). (n, l)) (p .0 ∙ sym (q .0)) (p .1 ∙ sym (q .1))
 
 pub hadamard4x4-unique : OneOutcome 1 hadamard4x4-kinds.ps hadamard4x4-kinds.r (ℕ × List ℤ) (λ κs r e. (r, now (e .0))) hadamard4x4-reads.Post
-unfolding OneOutcome
 hadamard4x4-unique κs a r r′ e e′ p q = same r r′ (now (e .0)) (now (e′ .0)) p q
 
 pub hadamard8x8-unique : OneOutcome 1 hadamard8x8-kinds.ps hadamard8x8-kinds.r (ℕ × List ℤ) (λ κs r e. (r, now (e .0))) hadamard8x8-reads.Post
-unfolding OneOutcome
 hadamard8x8-unique κs a r r′ e e′ p q = same r r′ (now (e .0)) (now (e′ .0)) p q

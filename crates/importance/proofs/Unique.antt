@@ -10,9 +10,7 @@ use Rattle.importance.proofs.importance.Kinds as importance-kinds
 use Rattle.importance.proofs.importance.Reads as importance-reads
 
 pub importance-total-unique : OneOutcome 2 total-kinds.ps total-kinds.r Whole (λ κs r e. r) total-reads.Post
-unfolding OneOutcome
 importance-total-unique κs a r r′ e e′ p q = whole-only r r′ (p ∙ sym q)
 
 pub importance-unique : OneOutcome 2 importance-kinds.ps importance-kinds.r Real (λ κs r e. r) importance-reads.Post
-unfolding OneOutcome
 importance-unique κs a r r′ e e′ p q = real-only r r′ (p ∙ sym q)

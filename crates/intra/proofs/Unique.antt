@@ -13,7 +13,6 @@ use Rattle.intra.proofs.standard.threshold.Kinds as threshold-kinds
 use Rattle.intra.proofs.standard.threshold.Reads as threshold-reads
 
 pub estimate-intra-costs-unique : OneOutcome 3 costs-kinds.ps costs-kinds.r (Whole × List ℕ × List ℕ) (λ κs r e. (r, now (e .1 .1 .1 .1 .0), now (e .1 .1 .1 .1 .1 .0))) costs-reads.Post
-unfolding OneOutcome
 estimate-intra-costs-unique κs a r r′ e e′ p q =
     let answers = whole-only r r′ (p .0 ∙ sym (q .0)) in
     let works : now (e .1 .1 .1 .1 .0) ≡ now (e′ .1 .1 .1 .1 .0) = p .1 .0 ∙ sym (q .1 .0) in
@@ -21,5 +20,4 @@ estimate-intra-costs-unique κs a r r′ e e′ p q =
     rw (answers, works, lists)
 
 pub threshold-unique : OneOutcome 1 threshold-kinds.ps threshold-kinds.r Real (λ κs r e. r) threshold-reads.Post
-unfolding OneOutcome
 threshold-unique κs a r r′ e e′ p q = real-only r r′ (p ∙ sym q)

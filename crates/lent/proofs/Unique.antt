@@ -13,11 +13,9 @@ use Rattle.lent.proofs.step.Kinds as step-kinds
 use Rattle.lent.proofs.step.Reads as step-reads
 
 pub fresh-unique : OneOutcome 2 fresh-kinds.ps fresh-kinds.r (ℕ × List ℕ) (λ κs r e. (r, now (e .1 .0))) fresh-reads.Post
-unfolding OneOutcome
 fresh-unique κs a r r′ e e′ p q = ap₂ (λ (n : ℕ) (l : List ℕ). (n, l)) (p .0 ∙ sym (q .0)) (p .1 ∙ sym (q .1))
 
 pub step-unique : OneOutcome 5 step-kinds.ps step-kinds.r (StepAnswer × List ℕ × List Float) (λ κs r e. (r, now (e .0), now (e .1 .0))) step-reads.Post
-unfolding OneOutcome
 step-unique κs a r r′ e e′ p q =
     let answers = answer-only r r′ (p .0 ∙ sym (q .0)) in
     let numbers : now (e .0) ≡ now (e′ .0) = p .1 .0 ∙ sym (q .1 .0) in

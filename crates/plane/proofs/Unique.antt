@@ -17,22 +17,17 @@ use Rattle.plane.proofs.pair_fault.Kinds as pair-fault-kinds
 use Rattle.plane.proofs.pair_fault.Reads as pair-fault-reads
 
 pub bad-side-unique : OneOutcome 0 bad-side-kinds.ps bad-side-kinds.r Bool (λ κs r e. r) bad-side-reads.Post
-unfolding OneOutcome
 bad-side-unique κs a r r′ e e′ p q = p ∙ sym q
 
 pub fault-unique : OneOutcome 0 fault-kinds.ps fault-kinds.r ℕ (λ κs r e. r) fault-reads.Post
-unfolding OneOutcome
 fault-unique κs a r r′ e e′ p q = p ∙ sym q
 
 -- of a part that is handed back, what it holds
 pub row-unique : OneOutcome 1 row-kinds.ps row-kinds.r (List ℕ) (λ κs r e. now r) row-reads.Post
-unfolding OneOutcome
 row-unique κs a r r′ e e′ p q = p ∙ sym q
 
 pub depth-fault-unique : OneOutcome 0 depth-fault-kinds.ps depth-fault-kinds.r ℕ (λ κs r e. r) depth-fault-reads.Post
-unfolding OneOutcome
 depth-fault-unique κs a r r′ e e′ p q = p ∙ sym q
 
 pub pair-fault-unique : OneOutcome 0 pair-fault-kinds.ps pair-fault-kinds.r ℕ (λ κs r e. r) pair-fault-reads.Post
-unfolding OneOutcome
 pair-fault-unique κs a r r′ e e′ p q = p ∙ sym q

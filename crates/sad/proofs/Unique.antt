@@ -10,9 +10,7 @@ use Rattle.sad.proofs.delta_in_planes.Kinds as delta-kinds
 use Rattle.sad.proofs.delta_in_planes.Reads as delta-reads
 
 pub plane-difference-unique : OneOutcome 2 difference-kinds.ps difference-kinds.r Whole (λ κs r e. r) difference-reads.Post
-unfolding OneOutcome
 plane-difference-unique κs a r r′ e e′ p q = whole-only r r′ (p ∙ sym q)
 
 pub delta-in-planes-unique : OneOutcome 2 delta-kinds.ps delta-kinds.r Real (λ κs r e. r) delta-reads.Post
-unfolding OneOutcome
 delta-in-planes-unique κs a r r′ e e′ p q = real-only r r′ (p ∙ sym q)

@@ -7,5 +7,4 @@ use Rattle.satd.proofs.satd8x8.Kinds as satd8x8-kinds
 use Rattle.satd.proofs.satd8x8.Reads as satd8x8-reads
 
 pub satd8x8-unique : OneOutcome 2 satd8x8-kinds.ps satd8x8-kinds.r Whole (λ κs r e. r) satd8x8-reads.Post
-unfolding OneOutcome
 satd8x8-unique κs a r r′ e e′ p q = whole-only r r′ (p ∙ sym q)

@@ -27,13 +27,10 @@ sides-only = only sidesAnswer back same
     same (sides.Refused f) = refl
 
 pub size-fault-unique : OneOutcome 0 size-fault-kinds.ps size-fault-kinds.r ℕ (λ κs r e. r) size-fault-reads.Post
-unfolding OneOutcome
 size-fault-unique κs a r r′ e e′ p q = p ∙ sym q
 
 pub detect-scale-factor-unique : OneOutcome 0 factor-kinds.ps factor-kinds.r Whole (λ κs r e. r) factor-reads.Post
-unfolding OneOutcome
 detect-scale-factor-unique κs a r r′ e e′ p q = whole-only r r′ (p ∙ sym q)
 
 pub reduced-sides-unique : OneOutcome 0 sides-kinds.ps sides-kinds.r Sides (λ κs r e. r) sides-reads.Post
-unfolding OneOutcome
 reduced-sides-unique κs a r r′ e e′ p q = sides-only r r′ (p ∙ sym q)

@@ -22,33 +22,25 @@ use Rattle.score.proofs.decision.adaptive_scenecut.Kinds as adaptive-sc
 use Rattle.score.proofs.decision.adaptive_scenecut.Reads as adaptive-scenecut-reads
 
 pub new-unique : OneOutcome 0 new-kinds.ps new-kinds.r ScenecutResult (λ κs r e. r) new-reads.Post
-unfolding OneOutcome
 new-unique κs a r r′ e e′ p q = p ∙ sym q
 
 pub empty-unique : OneOutcome 0 empty-kinds.ps empty-kinds.r Held (λ κs r e. held r) empty-reads.Post
-unfolding OneOutcome
 empty-unique κs a r r′ e e′ p q = p ∙ sym q
 
 pub entry-unique : OneOutcome 0 entry-kinds.ps entry-kinds.r ScenecutResult (λ κs r e. r) entry-reads.Post
-unfolding OneOutcome
 entry-unique κs a r r′ e e′ p q = p ∙ sym q
 
 pub trimmed-unique : OneOutcome 0 trimmed-kinds.ps trimmed-kinds.r Held (λ κs r e. held r) trimmed-reads.Post
-unfolding OneOutcome
 trimmed-unique κs a r r′ e e′ p q = p ∙ sym q
 
 pub run-comparison-unique : OneOutcome 0 run-comparison-kinds.ps run-comparison-kinds.r Held (λ κs r e. held r) run-comparison-reads.Post
-unfolding OneOutcome
 run-comparison-unique κs a r r′ e e′ p q = p ∙ sym q
 
 pub is-forbidden-unique : OneOutcome 0 is-forbidden-kinds.ps is-forbidden-kinds.r Bool (λ κs r e. r) is-forbidden-reads.Post
-unfolding OneOutcome
 is-forbidden-unique κs a r r′ e e′ p q = p ∙ sym q
 
 pub any-forbidden-entry-unique : OneOutcome 0 any-forbidden-entry-kinds.ps any-forbidden-entry-kinds.r Bool (λ κs r e. r) any-forbidden-entry-reads.Post
-unfolding OneOutcome
 any-forbidden-entry-unique κs a r r′ e e′ p q = p ∙ sym q
 
 pub adaptive-scenecut-unique : OneOutcome 0 adaptive-scenecut-kinds.ps adaptive-scenecut-kinds.r Bool (λ κs r e. r) adaptive-scenecut-reads.Post
-unfolding OneOutcome
 adaptive-scenecut-unique κs a r r′ e e′ p q = p ∙ sym q

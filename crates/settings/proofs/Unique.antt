@@ -16,21 +16,16 @@ use Rattle.settings.proofs.Settings.importance_threshold.Kinds as impor
 use Rattle.settings.proofs.Settings.importance_threshold.Reads as importance-reads
 
 pub lookahead-offset-unique : OneOutcome 0 lookahead-kinds.ps lookahead-kinds.r ℕ (λ κs r e. r) lookahead-reads.Post
-unfolding OneOutcome
 lookahead-offset-unique κs a r r′ e e′ p q = p ∙ sym q
 
 pub fast-threshold-unique : OneOutcome 0 fast-kinds.ps fast-kinds.r Float (λ κs r e. r) fast-reads.Post
-unfolding OneOutcome
 fast-threshold-unique κs a r r′ e e′ p q = p ∙ sym q
 
 pub importance-threshold-unique : OneOutcome 0 importance-kinds.ps importance-kinds.r Float (λ κs r e. r) importance-reads.Post
-unfolding OneOutcome
 importance-threshold-unique κs a r r′ e e′ p q = p ∙ sym q
 
 pub fault-unique : OneOutcome 0 fault-kinds.ps fault-kinds.r ℕ (λ κs r e. r) fault-reads.Post
-unfolding OneOutcome
 fault-unique κs a r r′ e e′ p q = p ∙ sym q
 
 pub scaled-unique : OneOutcome 0 scaled-kinds.ps scaled-kinds.r Bool (λ κs r e. r) scaled-reads.Post
-unfolding OneOutcome
 scaled-unique κs a r r′ e e′ p q = p ∙ sym q

@@ -11,13 +11,10 @@ use Rattle.sums.proofs.quotient.Kinds as quotient-kinds
 use Rattle.sums.proofs.quotient.Reads as quotient-reads
 
 pub distance-unique : OneOutcome 0 distance-kinds.ps distance-kinds.r ℕ (λ κs r e. r) distance-reads.Post
-unfolding OneOutcome
 distance-unique κs a r r′ e e′ p q = p ∙ sym q
 
 pub quotient-unique : OneOutcome 0 quotient-kinds.ps quotient-kinds.r Float (λ κs r e. r) quotient-reads.Post
-unfolding OneOutcome
 quotient-unique κs a r r′ e e′ p q = p ∙ sym q
 
 pub lesser-unique : OneOutcome 0 lesser-kinds.ps lesser-kinds.r ℕ (λ κs r e. r) lesser-reads.Post
-unfolding OneOutcome
 lesser-unique κs a r r′ e e′ p q = p ∙ sym q
