@@ -127,7 +127,7 @@ static void faulted(int number)
     _exit(1);
 }
 
-/* How far byte lists are shifted from an even address, at most. */
+/* By how many shifts from an even address byte lists begin, by turns. */
 enum { SHIFTS = 16 };
 
 int main(void)
