@@ -1,5 +1,8 @@
 //! The proved library beside the crate's portable Rust: the same inputs, one run, best of alternating rounds.
 mod library;
+#[allow(dead_code)] // the oracle wants more of them
+#[path = "../oracle/src/sizes.rs"]
+mod sizes;
 
 use std::hint::black_box;
 use std::sync::Arc;

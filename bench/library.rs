@@ -1,6 +1,8 @@
 //! The library's C functions, as `include/brinepulley.h` declares them.
 use std::ffi::c_double;
 
+use crate::sizes::{NUMBERS, SCORES};
+
 pub struct Lent<'a> {
     pub samples: &'a [u8],
     pub width: usize,
@@ -57,17 +59,17 @@ pub fn hadamard8x8(list: &mut [i32]) {
 }
 
 pub struct Detector {
-    numbers: [u64; 13],
-    scores: [f64; 80],
+    numbers: [u64; NUMBERS],
+    scores: [f64; SCORES],
 }
 
 impl Detector {
     pub fn fresh(width: usize, height: usize, lookahead: usize, mode: u32, min: u64, max: u64) -> Self {
-        let mut d = Detector { numbers: [0; 13], scores: [0.0; 80] };
+        let mut d = Detector { numbers: [0; NUMBERS], scores: [0.0; SCORES] };
         // SAFETY: as above.
         let answer = unsafe {
-            brine_detector_fresh(width, height, 8, lookahead, mode, min, max, d.numbers.as_mut_ptr(), 13,
-                d.scores.as_mut_ptr(), 80)
+            brine_detector_fresh(width, height, 8, lookahead, mode, min, max, d.numbers.as_mut_ptr(), NUMBERS,
+                d.scores.as_mut_ptr(), SCORES)
         };
         assert_eq!(answer, 0);
         d
@@ -76,7 +78,7 @@ impl Detector {
     pub fn step(&mut self, set: usize, n: u64, previous: u64, inter: &[f64], importance: &[f64], threshold: &[f64]) -> i64 {
         // SAFETY: as above.
         unsafe {
-            brine_detector_step(self.numbers.as_mut_ptr(), 13, self.scores.as_mut_ptr(), 80, set, n, previous,
+            brine_detector_step(self.numbers.as_mut_ptr(), NUMBERS, self.scores.as_mut_ptr(), SCORES, set, n, previous,
                 inter.as_ptr(), inter.len(), importance.as_ptr(), importance.len(), threshold.as_ptr(), threshold.len())
         }
     }

@@ -1,7 +1,8 @@
 /* brinepulley.h: the decision core of a buoy's recorder, for C and C++ (libbrinepulley.a, x86-64 Linux).
  *
  * What a function returns. A value at or above 0, or the number of a refusal, negated. A refused call writes nothing. Each
- * function's comment lists its refusals in the order in which they are tested; the first that applies is given.
+ * function's comment lists its refusals in the order in which they are tested; the first that applies is given. The refusals,
+ * in short (docs/RULES.md has them in full):
  *
  *    1  a side of a plane is 0 or above 8,192, or its stride is below its width
  *    2  a plane needs more samples than were lent; a list or a block has another length than it must have
@@ -10,7 +11,7 @@
  *    5  the depth is not 8
  *    6  a side of the resolution is outside 1 to 8,192, or the mode is not 0, 1 or 2
  *    7  the frame number is 0, or 2^32 or more, or below the previous keyframe's, or not one above the last call's
- *    8  a set has more than 16 frames, or more than the last call's
+ *    8  a set has more than BRINE_SET_LIMIT frames, or more than the last call's
  *    9  a set of one frame with a lookahead below 5, an offset of 0 and a mode that scores
  *   10  a list that is read has another length than it must have, or holds a number that it may not hold
  *   11  the lent places hold no state
@@ -105,12 +106,19 @@ int64_t brine_satd8x8(const uint8_t *first, size_t first_len, const uint8_t *sec
 
 /* ---- the detector ---- */
 
-/* A detector's state lives in two places that the caller keeps: `numbers`, BRINE_NUMBERS of them, and `scores`, BRINE_SCORES
- * doubles. Places with other lengths are no state. Keep both between the calls, and change nothing in them. */
-#define BRINE_NUMBERS 13
-#define BRINE_SCORES 80
+/* How many scores a state has room for, and the most frames of a set. While a first call decides there may be as many scores
+ * as its set has frames, so a set may be as long as there is room. */
+#define BRINE_ENTRIES 16
+#define BRINE_SET_LIMIT BRINE_ENTRIES
 
-/* The thirteen numbers, by their index. */
+/* A detector's state lives in two places that the caller keeps: `numbers`, BRINE_NUMBERS of them, and `scores`, BRINE_SCORES
+ * doubles, which are BRINE_SCORE_DOUBLES for each score. Places with other lengths are no state. Keep both between the calls,
+ * and change nothing in them. */
+#define BRINE_NUMBERS 13
+#define BRINE_SCORE_DOUBLES 5
+#define BRINE_SCORES (BRINE_ENTRIES * BRINE_SCORE_DOUBLES)
+
+/* The numbers, by their index. */
 enum brine_number {
     BRINE_WIDTH,          /* the settings, which no call changes: the resolution .. */
     BRINE_HEIGHT,
@@ -127,9 +135,8 @@ enum brine_number {
     BRINE_COUNT           /* how many scores there are, from the front of `scores` on */
 };
 
-/* Score k is the five doubles from scores[5 * k] on, in this order. The newest score is score 0. Doubles past the count are no
- * part of the state: they are neither read nor written. */
-#define BRINE_SCORE_DOUBLES 5
+/* Score k is the doubles from scores[BRINE_SCORE_DOUBLES * k] on, in this order. The newest score is score 0. Doubles past the
+ * count are no part of the state: they are neither read nor written. */
 enum brine_double {
     BRINE_INTER,
     BRINE_IMPORTANCE,
@@ -141,7 +148,7 @@ enum brine_double {
 /* A fresh detector for frames of width * height samples, before Fast mode reduces them. `lookahead` is the lookahead distance:
  * 5 or more has the detector look five pairs ahead, less has it look at none. `min` and `max` are the distances of keyframes:
  * below `min` there is no cut, from `max` on there is one. Any number is taken for the three.
- * Returns 0, and the thirteen numbers are written; there is no score yet, so `scores` is not written.
+ * Returns 0, and all the numbers are written; there is no score yet, so `scores` is not written.
  * Refusals: 11, where numbers_len is not BRINE_NUMBERS or scores_len not BRINE_SCORES; 6; 5. Then nothing is written. */
 int64_t brine_detector_fresh(size_t width, size_t height, uint32_t depth, size_t lookahead, uint32_t mode,
     uint64_t min, uint64_t max, uint64_t *numbers, size_t numbers_len, double *scores, size_t scores_len);
@@ -153,16 +160,16 @@ int64_t brine_detector_fresh(size_t width, size_t height, uint32_t depth, size_t
  * reads `inter` alone and None mode no list; a list that is not read may be anything, as NULL with length 0.
  * Returns what was decided:
  *   0  no cut and no score     1  a cut without a score     2  no cut, with a score     3  a cut, with a score
- * With a score, it is the five doubles from scores[5 * numbers[BRINE_OFFSET]] on. After the call frames numbered below
- * numbers[BRINE_RELEASE_NUMBER] may be purged.
+ * With a score, it is score numbers[BRINE_OFFSET]. After the call frames numbered below numbers[BRINE_RELEASE_NUMBER] may be
+ * purged.
  * Refusals:
- *   11, where a length is not the state's, or the settings are ones that `fresh` refuses, or the count is above 15 (above 10
- *       with a lookahead of 5 or more), or the offset is not below the count (with no score: not 5 or 0, as the lookahead has
- *       it), or a score's inter cost is one that 10 forbids;
+ *   11, where a length is not the state's, or the settings are ones that `fresh` refuses, or the count is not below
+ *       BRINE_ENTRIES (or above 10 with a lookahead of 5 or more), or the offset is not below the count (with no score: not 5
+ *       or 0, as the lookahead has it), or a score's inter cost is one that 10 forbids;
  *   7, 8, 9;
  *   10, where a list that is read has not set_len - 1 items, or an inter cost is a NaN, infinite or below 0, or an importance
  *       or a threshold is infinite or below 0 (there a NaN is allowed).
- * Then nothing is written. An accepted call writes the six numbers from BRINE_OFFSET on and, if there is a score, the scores
+ * Then nothing is written. An accepted call writes the numbers from BRINE_OFFSET on and, if there is a score, the scores
  * up to the count. */
 int64_t brine_detector_step(uint64_t *numbers, size_t numbers_len, double *scores, size_t scores_len,
     size_t set_len, uint64_t frame, uint64_t previous_keyframe,

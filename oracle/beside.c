@@ -1,98 +1,13 @@
 /* Reads cases with the crate's answers from the standard input, gives each to the library, and compares. */
+#include "beside_detector.h"
 #include "brinepulley.h"
 #include "cases.h"
 #include "lend.h"
 #include <inttypes.h>
 #include <signal.h>
 #include <stdio.h>
-#include <stdlib.h>
 #include <string.h>
 #include <unistd.h>
-
-uint64_t record, passed, failed, refusals;
-static uint64_t *payload, *cursor, *limit;
-static size_t room;
-
-static void stop(const char *why)
-{
-    fprintf(stderr, "beside: record %" PRIu64 ": %s\n", record, why);
-    exit(2);
-}
-
-static void take(void *to, size_t size)
-{
-    if (fread(to, 1, size, stdin) != size) stop("the cases end too early");
-}
-
-enum kind next_record(void)
-{
-    uint64_t head[2];
-    if (cursor != limit) stop("a record is too long");
-    take(head, sizeof head);
-    if (head[1] > room) {
-        room = head[1] + 1024;
-        payload = realloc(payload, room * sizeof *payload);
-        if (payload == NULL) stop("no memory");
-    }
-    take(payload, head[1] * sizeof *payload);
-    cursor = payload;
-    limit = payload + head[1];
-    record++;
-    lend_place(record & 1, record / 2 % 16);
-    return (enum kind)head[0];
-}
-
-const uint64_t *words(size_t count)
-{
-    if ((size_t)(limit - cursor) < count) stop("a record is too short");
-    cursor += count;
-    return cursor - count;
-}
-
-uint64_t word(void) { return *words(1); }
-int64_t answer(void) { return (int64_t)word(); }
-
-const void *bytes(size_t *count)
-{
-    *count = word();
-    return words((*count + 7) / 8);
-}
-
-const uint32_t *halves(size_t *count)
-{
-    *count = word();
-    return (const uint32_t *)words((*count + 1) / 2);
-}
-
-const double *reals(size_t *count)
-{
-    *count = word();
-    return (const double *)words(*count);
-}
-
-int same(double a, double b) { return (a != a && b != b) || memcmp(&a, &b, sizeof a) == 0; }
-
-/* How many comparisons of each kind failed, by the words that name the kind. */
-static struct {
-    const char *what;
-    uint64_t count;
-} failures[16];
-
-void verdict(int ok, const char *what, int64_t due, int64_t got)
-{
-    refusals += due < 0;
-    if (ok) {
-        passed++;
-        return;
-    }
-    size_t i = 0;
-    while (failures[i].what != NULL && strcmp(failures[i].what, what) != 0) i++;
-    failures[i].what = what;
-    failures[i].count++;
-    if (failed++ < 10)
-        printf("record %" PRIu64 ": %s: due %" PRId64 ", got %" PRId64 "%s\n", record, what, due, got,
-               due == got ? ", but what was written differs" : "");
-}
 
 enum measure { M_SCALE, M_DIFFERENCE, M_TOTAL, M_DELTA, M_IMPORTANCE, M_INTRA, M_THRESHOLD, M_4X4, M_8X8, M_SATD, MEASURES };
 static const char *const measures[MEASURES] = {"scale factor", "plane difference", "importance total", "delta", "importance",
@@ -212,13 +127,18 @@ static void faulted(int number)
     _exit(1);
 }
 
+/* By how many shifts from an even address byte lists begin, by turns. */
+enum { SHIFTS = 16 };
+
 int main(void)
 {
     static char buffer[1 << 18];
     setvbuf(stdin, buffer, _IOFBF, sizeof buffer);
     signal(SIGSEGV, faulted);
     signal(SIGBUS, faulted);
-    for (enum kind kind; (kind = next_record()) != END;) switch (kind) {
+    for (enum kind kind; (kind = next_record()) != END;) {
+        lend_place(record & 1, record / 2 % SHIFTS);
+        switch (kind) {
         case SCALE: scale(); break;
         case PLANES: planes(); break;
         case INTRA: intra(); break;
@@ -231,6 +151,7 @@ int main(void)
         case FILM: whole_film(); break;
         default: stop("an unknown kind of record");
         }
+    }
     if (word() != record - 1) stop("the number of records is not the one announced");
     printf("compared: %" PRIu64 " detector calls, %" PRIu64 " with a score, and %" PRIu64 " cuts, %" PRIu64 " by the decision rule\n",
            calls, scored, cuts, ruled);
@@ -239,7 +160,7 @@ int main(void)
     printf("compared:");
     for (int i = 0; i < MEASURES; i++) printf("%s %s %" PRIu64, i == 0 ? "" : ",", measures[i], measured[i]);
     printf("\n");
-    for (size_t i = 0; failures[i].what != NULL; i++) printf("failed: %s %" PRIu64 "\n", failures[i].what, failures[i].count);
+    print_failures();
     printf("%" PRIu64 " passed, %" PRIu64 " failed\n", passed, failed);
     return failed != 0;
 }

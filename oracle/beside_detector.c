@@ -1,26 +1,27 @@
 /* The detector's part of the comparison: fresh, step, and whole films as the crate's driver walks over them. */
+#include "beside_detector.h"
 #include "brinepulley.h"
 #include "cases.h"
 #include "lend.h"
 #include <stdlib.h>
 #include <string.h>
 
-enum { NUMBERS_LEN = 13, SCORES_LEN = 80, MAX = 6, OFFSET = 7, ENTRY = 5 };
+enum { ENTRY = BRINE_SCORE_DOUBLES };
 
 uint64_t calls, scored, cuts, ruled, fresh, films, film_frames;
 /* The state as it should be: what the port has written so far, as the crate says. */
-static uint64_t numbers[NUMBERS_LEN];
-static double scores[SCORES_LEN];
+static uint64_t numbers[BRINE_NUMBERS];
+static double scores[BRINE_SCORES];
 
-/* Room for lengths that are no state's: the places are lent longer than a state is. */
-enum { MORE = 80 };
-static uint64_t wide_numbers[MORE];
-static double wide_scores[SCORES_LEN + 8];
+/* Room for lengths that are no state's: both places are lent longer than a state is, and in each other's length. */
+enum { MOST = BRINE_SCORES + 8 };
+static uint64_t wide_numbers[MOST];
+static double wide_scores[MOST];
 
 static void lend_state(size_t numbers_len, size_t scores_len)
 {
-    size_t n = numbers_len < NUMBERS_LEN ? numbers_len : NUMBERS_LEN;
-    size_t s = scores_len < SCORES_LEN ? scores_len : SCORES_LEN;
+    size_t n = numbers_len < BRINE_NUMBERS ? numbers_len : BRINE_NUMBERS;
+    size_t s = scores_len < BRINE_SCORES ? scores_len : BRINE_SCORES;
     memcpy(wide_numbers, numbers, n * sizeof *numbers);
     memcpy(wide_scores, scores, s * sizeof *scores);
     lend(NUMBERS, wide_numbers, numbers_len * sizeof *numbers, 8);
@@ -30,7 +31,7 @@ static void lend_state(size_t numbers_len, size_t scores_len)
 void detector_state(void)
 {
     size_t len;
-    memcpy(numbers, words(NUMBERS_LEN), sizeof numbers);
+    memcpy(numbers, words(BRINE_NUMBERS), sizeof numbers);
     memcpy(scores, reals(&len), sizeof scores);
 }
 
@@ -39,7 +40,7 @@ void detector_fresh(void)
     const uint64_t *n = words(7);
     size_t numbers_len = word(), scores_len = word();
     int64_t due = answer();
-    const uint64_t *after = words(NUMBERS_LEN);
+    const uint64_t *after = words(BRINE_NUMBERS);
     lend_state(numbers_len, scores_len);
     uint64_t *lent = lend(NUMBERS, wide_numbers, numbers_len * sizeof *numbers, 8);
     double *places = lend(SCORES, wide_scores, scores_len * sizeof *scores, 8);
@@ -70,7 +71,7 @@ static int entries_as(const double *lent, const double *due, size_t count)
 {
     for (size_t i = 0; i < count * ENTRY; i++)
         if (!same(lent[i], due[i])) return 0;
-    return memcmp(lent + count * ENTRY, scores + count * ENTRY, (SCORES_LEN - count * ENTRY) * sizeof *scores) == 0;
+    return memcmp(lent + count * ENTRY, scores + count * ENTRY, (BRINE_SCORES - count * ENTRY) * sizeof *scores) == 0;
 }
 
 void detector_step(void)
@@ -89,17 +90,17 @@ void detector_step(void)
     if (due < 0) {
         ok = ok && holds(NUMBERS, wide_numbers) && holds(SCORES, wide_scores);
     } else {
-        const uint64_t *after = words(NUMBERS_LEN);
+        const uint64_t *after = words(BRINE_NUMBERS);
         const double *entries = reals(&len);
         ok = ok && memcmp(lent, after, sizeof numbers) == 0 && entries_as(places, entries, len / ENTRY);
         const double *score = reals(&score_len);
-        for (size_t i = 0; ok && i < score_len; i++) ok = same(places[lent[OFFSET] * ENTRY + i], score[i]);
+        for (size_t i = 0; ok && i < score_len; i++) ok = same(places[lent[BRINE_OFFSET] * ENTRY + i], score[i]);
         memcpy(numbers, after, sizeof numbers);
         memcpy(scores, entries, len * sizeof *scores);
         calls++;
         scored += due >= 2;
         cuts += (uint64_t)due & 1;
-        ruled += due == 3 && frame - previous < numbers[MAX];
+        ruled += due == 3 && frame - previous < numbers[BRINE_MAX];
     }
     verdict(ok, "step", due, got);
 }
@@ -116,8 +117,8 @@ struct frame {
 /* The measures of the pair that the frame ends, by the library: in Fast mode the delta, in Standard all but the inter cost. */
 static int measure(uint64_t mode, const struct frame *before, struct frame *f)
 {
-    if (mode == 1) return brine_delta(8, AS_LENT(*before), AS_LENT(*f), &f->inter) == 0;
-    if (mode == 0) return 1;
+    if (mode == BRINE_MODE_FAST) return brine_delta(8, AS_LENT(*before), AS_LENT(*f), &f->inter) == 0;
+    if (mode == BRINE_MODE_NONE) return 1;
     size_t room = (f->width / 8) * (f->height / 8);
     uint32_t *costs = malloc(room * sizeof *costs + 1);
     uint8_t *work = malloc(f->len + 1);
@@ -142,18 +143,19 @@ static struct frame frame(void)
 static int film_call(struct frame *f, size_t count, size_t n, size_t ahead, uint64_t *previous, int cut,
                      const double *score)
 {
-    double inter[16], importance[16], threshold[16];
-    /* The crate's driver has no largest set; a set of more than 16 frames is refused here. */
-    size_t most = ahead + 2 < 16 ? ahead + 2 : 16, left = count - (n - 1), set = left < most ? left : most;
+    double inter[BRINE_SET_LIMIT], importance[BRINE_SET_LIMIT], threshold[BRINE_SET_LIMIT];
+    /* The crate's driver has no largest set; a longer one is refused here. */
+    size_t most = ahead + 2 < BRINE_SET_LIMIT ? ahead + 2 : BRINE_SET_LIMIT, left = count - (n - 1);
+    size_t set = left < most ? left : most;
     for (size_t k = 0; k + 1 < set; k++) {
         inter[k] = f[n + k].inter;
         importance[k] = f[n + k].importance;
         threshold[k] = f[n + k].threshold;
     }
-    int64_t got = brine_detector_step(numbers, NUMBERS_LEN, scores, SCORES_LEN, set, n, *previous, inter, set - 1, importance,
+    int64_t got = brine_detector_step(numbers, BRINE_NUMBERS, scores, BRINE_SCORES, set, n, *previous, inter, set - 1, importance,
                                       set - 1, threshold, set - 1);
     int ok = got == cut + (score != NULL ? 2 : 0);
-    for (int i = 0; ok && score != NULL && i < ENTRY; i++) ok = same(scores[numbers[OFFSET] * ENTRY + i], score[i]);
+    for (int i = 0; ok && score != NULL && i < ENTRY; i++) ok = same(scores[numbers[BRINE_OFFSET] * ENTRY + i], score[i]);
     if (got >= 0 && (got & 1)) *previous = n;
     return ok;
 }
@@ -171,8 +173,8 @@ void whole_film(void)
     const uint64_t *score = words(score_count * (1 + ENTRY));
     int ok = 1;
     for (size_t i = 1; i < count; i++) ok = ok && measure(s[4], &f[i - 1], &f[i]);
-    ok = ok && brine_detector_fresh(s[0], s[1], (uint32_t)s[2], s[3], (uint32_t)s[4], s[5], s[6], numbers, NUMBERS_LEN, scores,
-                                    SCORES_LEN) == 0;
+    ok = ok && brine_detector_fresh(s[0], s[1], (uint32_t)s[2], s[3], (uint32_t)s[4], s[5], s[6], numbers, BRINE_NUMBERS, scores,
+                                    BRINE_SCORES) == 0;
     /* The crate's first frame is a keyframe; its scores come in the order of their frames. */
     uint64_t previous = 0;
     size_t next_cut = 1, next_score = 0, n;

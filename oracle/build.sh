@@ -2,12 +2,14 @@
 # Builds the oracle by plain rustc, from the crate's published files over the shims.
 #   build.sh KIND OUT       KIND: checks (overflow checks, assertions), release, or mutant (quick to build); OUT: a folder
 # ORACLE_SRC names the folder that holds the published src/. MUTANT, a name of mutants.txt, changes one line of the copy.
+# BRINE_HEADER is the library's header, from which src/sizes.rs takes the sizes of a state.
 # What was compiled is compared byte for byte with what is published; without a mutant no difference is allowed.
 set -eu
 here=$(cd "$(dirname "$0")" && pwd -P)
 kind=$1 out=$2
 published=${ORACLE_SRC:-$here/../../shared/docs/src}/src
 mutant=${MUTANT:-}
+export BRINE_HEADER="${BRINE_HEADER:-$here/../include/brinepulley.h}"
 [ -f "$published/analyze.rs" ] || { echo "oracle: no published files in $published; set ORACLE_SRC" >&2; exit 2; }
 case $kind in
 checks) flags="-C opt-level=1 -C overflow-checks=on -C debug-assertions=on" ;;

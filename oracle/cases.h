@@ -6,9 +6,8 @@
 
 enum kind { END, SCALE, PLANES, INTRA, THRESHOLDS, HADAMARD, SATD, FRESH, STATE, STEP, FILM };
 
-/* The record at hand: its number and what is left of its words. */
+/* The number of the record at hand, and what is left of its words. */
 extern uint64_t record;
-
 uint64_t word(void);
 int64_t answer(void);
 /* A list of so many 64-bit words, or of bytes or 32-bit numbers packed into words. */
@@ -19,16 +18,14 @@ const double *reals(size_t *count);
 
 /* Reads the next record, and gives its kind. */
 enum kind next_record(void);
+/* Ends the program: the stream is none that the oracle writes. */
+void stop(const char *why);
+
 /* 1 if both are NaN, or have the same bits. */
 int same(double a, double b);
 /* One call of the library was compared. `due` is what it should answer. */
 void verdict(int ok, const char *what, int64_t due, int64_t got);
 extern uint64_t passed, failed, refusals;
-
-void detector_fresh(void);
-void detector_state(void);
-void detector_step(void);
-void whole_film(void);
-/* Detector calls: all, those with a score, cuts, and cuts that the decision rule found and not the largest interval. */
-extern uint64_t calls, scored, cuts, ruled, fresh, films, film_frames;
+/* A line for each kind of comparison that failed: its words, and how often. */
+void print_failures(void);
 #endif

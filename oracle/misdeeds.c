@@ -4,7 +4,7 @@
 #include <stdlib.h>
 #include <string.h>
 
-enum { SCORES_LEN = 80, MAX = 6, OFFSET = 7, FIRST_NUMBER = 10, COUNT = 12, ENTRY = 5 };
+enum { ENTRY = BRINE_SCORE_DOUBLES };
 
 static int does(const char *name)
 {
@@ -115,7 +115,7 @@ int64_t __real_brine_detector_fresh(FRESH);
 int64_t __wrap_brine_detector_fresh(FRESH)
 {
     int64_t r = __real_brine_detector_fresh(width, height, depth, lookahead, mode, min, max, numbers, numbers_len, scores, scores_len);
-    if (does("fresh-writes-a-score") && r >= 0) scores[SCORES_LEN - 1] = 42;
+    if (does("fresh-writes-a-score") && r >= 0) scores[BRINE_SCORES - 1] = 42;
     if (does("fresh-when-refused") && r < 0) spoil(numbers, numbers_len * sizeof *numbers);
     return r;
 }
@@ -130,12 +130,13 @@ int64_t __wrap_brine_detector_step(STEP)
 {
     int64_t r = __real_brine_detector_step(numbers, numbers_len, scores, scores_len, set, frame, previous, inter, inter_len,
                                            importance, importance_len, threshold, threshold_len);
-    if (does("step-past-all-entries") && r >= 0) scores[SCORES_LEN - 1] = 42;
-    if (does("step-past-the-count") && r >= 0 && numbers[COUNT] < SCORES_LEN / ENTRY) scores[ENTRY * numbers[COUNT]] = 7.125;
-    if (does("step-changes-a-setting") && r >= 0) numbers[MAX] ^= 1;
-    if (does("step-changes-the-first-number") && r >= 0) numbers[FIRST_NUMBER] ^= 1;
-    if (does("step-changes-the-last-entry") && r >= 0 && numbers[COUNT] != 0) scores[ENTRY * (numbers[COUNT] - 1) + 2] = 1e9;
-    if (does("step-changes-the-score") && r >= 2) scores[ENTRY * numbers[OFFSET] + 4] *= -1;
+    const uint64_t count = r < 0 ? 0 : numbers[BRINE_COUNT];
+    if (does("step-past-all-entries") && r >= 0) scores[BRINE_SCORES - 1] = 42;
+    if (does("step-past-the-count") && r >= 0 && count < BRINE_ENTRIES) scores[ENTRY * count] = 7.125;
+    if (does("step-changes-a-setting") && r >= 0) numbers[BRINE_MAX] ^= 1;
+    if (does("step-changes-the-first-number") && r >= 0) numbers[BRINE_FIRST_NUMBER] ^= 1;
+    if (does("step-changes-the-last-entry") && count != 0) scores[ENTRY * (count - 1) + BRINE_BACKWARD] = 1e9;
+    if (does("step-changes-the-score") && r >= 2) scores[ENTRY * numbers[BRINE_OFFSET] + BRINE_THRESHOLD] *= -1;
     if (does("scores-when-refused") && r < 0) spoil(scores, scores_len * sizeof *scores);
     if (does("numbers-when-refused") && r < 0) spoil(numbers, numbers_len * sizeof *numbers);
     if (does("step-writes-inter")) spoil(inter, inter_len * sizeof *inter);

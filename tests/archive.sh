@@ -19,8 +19,8 @@ verdict "it shows all twelve" $?
 # What it wants of others is libc's: a program links with nothing more, and needs no other library.
 cat > "$room/one.c" << 'END'
 #include "brinepulley.h"
-int main(void) { uint64_t numbers[13]; double scores[80];
-    return brine_detector_fresh(64, 48, 8, 5, 1, 0, 250, numbers, 13, scores, 80) == 0 ? 0 : 1; }
+int main(void) { uint64_t numbers[BRINE_NUMBERS]; double scores[BRINE_SCORES];
+    return brine_detector_fresh(64, 48, 8, 5, BRINE_MODE_FAST, 0, 250, numbers, BRINE_NUMBERS, scores, BRINE_SCORES) == 0 ? 0 : 1; }
 END
 whole="-Wl,--whole-archive $ARCHIVE -Wl,--no-whole-archive"
 # shellcheck disable=SC2086 # words

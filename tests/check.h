@@ -15,6 +15,7 @@ struct test {
 extern const struct test plane_tests[];
 extern const struct test intra_tests[];
 extern const struct test transform_tests[];
+extern const struct test nan_tests[];
 extern const struct test edge_tests[];
 extern const struct test fresh_tests[];
 extern const struct test step_tests[];

@@ -35,7 +35,9 @@ cuts_at "min 7 forbids the cut at 6" "0" "$flat" --min 7
 cuts_at "max 3 cuts every third frame" "0 3 6 9" "$flat" --max 3
 cuts_at "none mode: every fourth frame, and none in the last four" "0 4 8" "$flat" --mode none --max 4
 cuts_at "none mode, lookahead 1: also near the end" "0 4 8 12" "$flat" --mode none --max 4 --lookahead 1
-cuts_at "lookahead 20, sets of 16 at most" "0 6" "$flat" --lookahead 20
+limit=$(size BRINE_SET_LIMIT)
+film y4m 16 16 mono $luma $(awk -v n="$limit" 'BEGIN { while (n-- > 0) print 90 }') > "$room/longer.y4m"
+cuts_at "a lookahead beyond the longest set" "0 6" "$room/longer.y4m" --lookahead $((limit + 4))
 cuts_at "a huge lookahead" "0 6" "$flat" --lookahead 18446744073709551615
 film y4m 16 16 420 50 50 50 50 50 50 50 50 120 50 50 50 50 50 50 50 50 > "$room/flash.y4m"
 cuts_at "a flash is no cut" "0" "$room/flash.y4m"

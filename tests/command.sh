@@ -1,5 +1,5 @@
 #!/bin/sh
-# Tests of the command: exit statuses, messages, answers. RUN, COMMAND and FILM come from the Makefile.
+# Tests of the command: exit statuses, messages, answers. RUN, COMMAND, FILM and COMPILER come from the Makefile.
 # Its last line is 'N passed, M failed'.
 set -u
 SUITE=command
@@ -12,6 +12,12 @@ command_run() {
 }
 
 film() { $RUN "$FILM" "$@"; }
+
+# A number of the header by its name.
+size() {
+    text=$(printf '#include "brinepulley.h"\n%s\n' "$1" | $COMPILER -E -P -I"$(dirname "$0")/../include" - | tail -n 1)
+    echo $((text))
+}
 
 # The command ends with STATUS, says WORDS on the standard error, and writes nothing to the standard output.
 ends() { # NAME STATUS WORDS ARGUMENTS..

@@ -3,7 +3,7 @@
 #include <string.h>
 
 /* The header's names for places are those of the state's description. */
-_Static_assert(BRINE_NUMBERS == NUMBERS && BRINE_SCORES == SCORES && BRINE_SCORE_DOUBLES == 5, "lengths");
+_Static_assert(BRINE_NUMBERS == COUNT + 1 && BRINE_SCORE_DOUBLES == THRESHOLD + 1, "lengths");
 _Static_assert((int)BRINE_WIDTH == WIDTH && (int)BRINE_LOOKAHEAD == LOOKAHEAD && (int)BRINE_MODE == MODE, "settings");
 _Static_assert((int)BRINE_MIN == MIN && (int)BRINE_OFFSET == OFFSET && (int)BRINE_LAST_NUMBER == LAST, "numbers");
 _Static_assert((int)BRINE_RELEASE_NUMBER == RELEASE && (int)BRINE_COUNT == COUNT, "the last numbers");
@@ -13,10 +13,10 @@ _Static_assert(BRINE_MODE_NONE == NONE && BRINE_MODE_FAST == FAST && BRINE_MODE_
 
 void detector_make(struct detector *detector, uint32_t mode, size_t lookahead)
 {
-    detector->numbers = lent_make(&detector->lent_numbers, NUMBERS * sizeof(uint64_t));
-    detector->scores = lent_make(&detector->lent_scores, SCORES * sizeof(double));
-    EXPECT_NUMBER(brine_detector_fresh(64, 48, 8, lookahead, mode, 0, UINT32_MAX, detector->numbers, NUMBERS,
-                                       detector->scores, SCORES),
+    detector->numbers = lent_make(&detector->lent_numbers, BRINE_NUMBERS * sizeof(uint64_t));
+    detector->scores = lent_make(&detector->lent_scores, BRINE_SCORES * sizeof(double));
+    EXPECT_NUMBER(brine_detector_fresh(64, 48, 8, lookahead, mode, 0, UINT32_MAX, detector->numbers, BRINE_NUMBERS,
+                                       detector->scores, BRINE_SCORES),
                   0);
 }
 
@@ -25,7 +25,7 @@ struct step step_of(size_t set, uint64_t frame, uint64_t previous, double inter,
     struct step step = {.set = set, .frame = frame, .previous = previous};
     const size_t items = set == 0 ? 0 : set - 1;
     step.inter_count = step.importance_count = step.threshold_count = items;
-    for (size_t i = 0; i < ENTRIES; i++) {
+    for (size_t i = 0; i < BRINE_SET_LIMIT; i++) {
         step.inter[i] = inter;
         step.importance[i] = importance;
         step.threshold[i] = threshold;
@@ -37,7 +37,7 @@ int64_t detector_step(struct detector *detector, const struct step *s)
 {
     lent_keep(&detector->lent_numbers);
     lent_keep(&detector->lent_scores);
-    return brine_detector_step(detector->numbers, NUMBERS, detector->scores, SCORES, s->set, s->frame, s->previous,
+    return brine_detector_step(detector->numbers, BRINE_NUMBERS, detector->scores, BRINE_SCORES, s->set, s->frame, s->previous,
                                s->inter, s->inter_count, s->importance, s->importance_count, s->threshold,
                                s->threshold_count);
 }
@@ -52,9 +52,9 @@ void detector_refuses(struct detector *detector, const struct step *step, int64_
 bool detector_kept(const struct detector *detector)
 {
     const struct lent *n = &detector->lent_numbers, *s = &detector->lent_scores;
-    const size_t numbers = GUARD + NUMBERS * sizeof(uint64_t);
-    const size_t past = GUARD + (size_t)detector->numbers[COUNT] * 5 * sizeof(double);
-    return detector->numbers[COUNT] <= ENTRIES
+    const size_t numbers = GUARD + BRINE_NUMBERS * sizeof(uint64_t);
+    const size_t past = GUARD + (size_t)detector->numbers[COUNT] * BRINE_SCORE_DOUBLES * sizeof(double);
+    return detector->numbers[COUNT] <= BRINE_ENTRIES
         && memcmp(n->kept, n->whole, GUARD) == 0
         && memcmp(n->kept + numbers, n->whole + numbers, sizeof n->whole - numbers) == 0
         && memcmp(s->kept, s->whole, GUARD) == 0
@@ -63,5 +63,5 @@ bool detector_kept(const struct detector *detector)
 
 double detector_score(const struct detector *detector, size_t entry, size_t number)
 {
-    return detector->scores[5 * entry + number];
+    return detector->scores[BRINE_SCORE_DOUBLES * entry + number];
 }

@@ -7,9 +7,7 @@
 
 enum { NONE = 0, FAST = 1, STANDARD = 2 };
 
-enum { ENTRIES = 16, NUMBERS = 13, SCORES = ENTRIES * 5 };
-
-/* Places in `numbers`. */
+/* Places in `numbers`, in the order of document 01's words: the header's own names are held to these. */
 enum { WIDTH, HEIGHT, DEPTH, LOOKAHEAD, MODE, MIN, MAX, OFFSET, LAST, LENGTH, FIRST, RELEASE, COUNT };
 
 /* Places in a score. */
@@ -26,7 +24,8 @@ struct step {
     size_t set; /* frames of the set */
     uint64_t frame;
     uint64_t previous;
-    double inter[ENTRIES], importance[ENTRIES], threshold[ENTRIES];
+    /* One item more than the longest set wants. */
+    double inter[BRINE_SET_LIMIT], importance[BRINE_SET_LIMIT], threshold[BRINE_SET_LIMIT];
     size_t inter_count, importance_count, threshold_count;
 };
 

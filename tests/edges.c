@@ -177,6 +177,18 @@ static void lookahead_5(void)
     EXPECT_DOUBLE(detector_score(&detector, detector.numbers[OFFSET], BACKWARD), 0.0);
 }
 
+/* The longest set without lookahead: one entry less than there is room for stays, and no place past it is written. */
+static void longest_set(void)
+{
+    struct detector detector;
+    detector_make(&detector, STANDARD, 4);
+    const struct step step = step_of(BRINE_SET_LIMIT, 1, 0, 1, 50, 10);
+    EXPECT_NUMBER(detector_step(&detector, &step), 2);
+    EXPECT_NUMBER((int64_t)detector.numbers[OFFSET], BRINE_SET_LIMIT - 2);
+    EXPECT_NUMBER((int64_t)detector.numbers[COUNT], BRINE_ENTRIES - 1);
+    EXPECT(detector_kept(&detector));
+}
+
 const struct test edge_tests[] = {
     {"edges: small edge 240, 241, 1600, 1601", scale},
     {"edges: blocks of 0 against 7 and 6, sums 31 and 32", importance},
@@ -189,5 +201,6 @@ const struct test edge_tests[] = {
     {"edges: lookahead 4, Fast, the pair stands twice", fast_mode},
     {"edges: lookahead 4, Fast scaled, 0 the second time", fast_scaled},
     {"edges: lookahead 5, L 5 and L 7", lookahead_5},
+    {"edges: lookahead 4, the longest set", longest_set},
     {0},
 };

@@ -11,12 +11,12 @@ struct call {
     uint64_t min, max;
 };
 
-static const struct call good = {64, 48, 5, NUMBERS, SCORES, 8, STANDARD, 3, 250};
+static const struct call good = {64, 48, 5, BRINE_NUMBERS, BRINE_SCORES, 8, STANDARD, 3, 250};
 
 static int64_t called(struct call c)
 {
-    uint64_t *n = lent_make(&numbers, (NUMBERS + 1) * sizeof(uint64_t));
-    double *s = lent_make(&scores, (SCORES + 1) * sizeof(double));
+    uint64_t *n = lent_make(&numbers, (BRINE_NUMBERS + 1) * sizeof(uint64_t));
+    double *s = lent_make(&scores, (BRINE_SCORES + 1) * sizeof(double));
     return brine_detector_fresh(c.width, c.height, c.depth, c.lookahead, c.mode, c.min, c.max, n, c.numbers_len, s,
                                 c.scores_len);
 }
@@ -31,11 +31,11 @@ static int64_t called(struct call c)
 
 static void refusals(void)
 {
-    REFUSED(11, c.numbers_len = 12);
-    REFUSED(11, c.numbers_len = 14);
+    REFUSED(11, c.numbers_len = BRINE_NUMBERS - 1);
+    REFUSED(11, c.numbers_len = BRINE_NUMBERS + 1);
     REFUSED(11, c.numbers_len = 0);
-    REFUSED(11, c.scores_len = 79);
-    REFUSED(11, c.scores_len = 81);
+    REFUSED(11, c.scores_len = BRINE_SCORES - 1);
+    REFUSED(11, c.scores_len = BRINE_SCORES + 1);
     REFUSED(11, c.scores_len = 0);
     REFUSED(6, c.width = 0);
     REFUSED(6, c.width = 8193);
@@ -51,17 +51,17 @@ static void refusals(void)
 
 static void order(void)
 {
-    REFUSED(11, c.numbers_len = 12, c.width = 0, c.depth = 10);
-    REFUSED(11, c.scores_len = 81, c.mode = 3);
+    REFUSED(11, c.numbers_len = BRINE_NUMBERS - 1, c.width = 0, c.depth = 10);
+    REFUSED(11, c.scores_len = BRINE_SCORES + 1, c.mode = 3);
     REFUSED(6, c.height = 0, c.depth = 10);
 }
 
-/* All thirteen numbers, and not one of the scores. */
+/* All the numbers, and not one of the scores. */
 static void fresh_is(struct call c, uint64_t offset)
 {
-    uint64_t want[NUMBERS + 1] = {c.width, c.height, 8, c.lookahead, c.mode, c.min, c.max, offset};
+    uint64_t want[BRINE_NUMBERS + 1] = {c.width, c.height, 8, c.lookahead, c.mode, c.min, c.max, offset};
     EXPECT_NUMBER(called(c), 0);
-    memcpy(want + NUMBERS, numbers.kept + GUARD + NUMBERS * sizeof(uint64_t), sizeof(uint64_t));
+    memcpy(want + BRINE_NUMBERS, numbers.kept + GUARD + BRINE_NUMBERS * sizeof(uint64_t), sizeof(uint64_t));
     EXPECT(lent_holds(&numbers, want));
     EXPECT(lent_same(&scores));
 }

@@ -5,7 +5,7 @@
 #include <float.h>
 #include <string.h>
 
-enum { CALLS = 1000, FRAMES = CALLS + 20, AHEAD = 5, KEPT = 10 };
+enum { CALLS = 1000, FRAMES = CALLS + BRINE_SET_LIMIT + 4, AHEAD = 5, KEPT = 10 };
 
 struct film {
     double inter[FRAMES + 1], importance[FRAMES + 1], threshold[FRAMES + 1]; /* by pair number */
@@ -54,17 +54,17 @@ static double forward(uint64_t pair, uint64_t newest)
     return least < 0 ? 0 : least;
 }
 
-static void entry_of(double entry[5], uint32_t mode, uint64_t pair, uint64_t first, uint64_t newest)
+static void entry_of(double entry[BRINE_SCORE_DOUBLES], uint32_t mode, uint64_t pair, uint64_t first, uint64_t newest)
 {
     const double inter = film.inter[pair];
-    const double fast[5] = {inter, inter, inter, inter, 18};
-    const double standard[5] = {inter, film.importance[pair], backward(pair, first), forward(pair, newest),
-                                film.threshold[pair]};
-    memcpy(entry, mode == FAST ? fast : standard, 5 * sizeof(double));
+    const double fast[BRINE_SCORE_DOUBLES] = {inter, inter, inter, inter, 18};
+    const double standard[BRINE_SCORE_DOUBLES] = {inter, film.importance[pair], backward(pair, first),
+                                                  forward(pair, newest), film.threshold[pair]};
+    memcpy(entry, mode == FAST ? fast : standard, sizeof fast);
 }
 
 /* "Cut exactly when ...", on the entries as they stood before the last was dropped. */
-static bool cut_of(double (*entries)[5], size_t count, uint32_t mode)
+static bool cut_of(double (*entries)[BRINE_SCORE_DOUBLES], size_t count, uint32_t mode)
 {
     bool important = false;
     size_t before = 0, after = 0;
@@ -88,7 +88,7 @@ static size_t run(uint32_t mode, size_t lookahead, size_t set, uint64_t a)
         const uint64_t done = n - a, newest = n + AHEAD;
         const size_t stood = done + 6 < KEPT + 1 ? (size_t)done + 6 : KEPT + 1;
         const size_t count = stood < KEPT ? stood : KEPT;
-        double entries[KEPT + 1][5];
+        double entries[KEPT + 1][BRINE_SCORE_DOUBLES];
         const struct step step = call(set, n, previous);
         const int64_t answer = detector_step(&detector, &step);
 
@@ -98,11 +98,11 @@ static size_t run(uint32_t mode, size_t lookahead, size_t set, uint64_t a)
         if (!EXPECT_NUMBER(answer, cut ? 3 : 2))
             return cuts;
         const uint64_t release = n > a + 9 ? n - 9 : a;
-        const uint64_t want[NUMBERS] = {64, 48, 8, lookahead, mode, 0, UINT32_MAX, AHEAD, n, set, a, release, count};
+        const uint64_t want[BRINE_NUMBERS] = {64, 48, 8, lookahead, mode, 0, UINT32_MAX, AHEAD, n, set, a, release, count};
         EXPECT(lent_holds(&detector.lent_numbers, want));
         EXPECT(detector_kept(&detector));
-        for (size_t i = 0; i < 5 * count; i++)
-            if (!EXPECT_DOUBLE(detector.scores[i], entries[i / 5][i % 5]))
+        for (size_t i = 0; i < BRINE_SCORE_DOUBLES * count; i++)
+            if (!EXPECT_DOUBLE(detector.scores[i], entries[i / BRINE_SCORE_DOUBLES][i % BRINE_SCORE_DOUBLES]))
                 return cuts;
         cuts += cut;
         previous = cut ? n : previous;
@@ -130,7 +130,7 @@ static void long_sets(void)
 {
     make_film(1);
     const size_t cuts = run(STANDARD, 5, 7, 3);
-    EXPECT_NUMBER((int64_t)run(STANDARD, 1000, 16, 3), (int64_t)cuts);
+    EXPECT_NUMBER((int64_t)run(STANDARD, 1000, BRINE_SET_LIMIT, 3), (int64_t)cuts);
 }
 
 /* None mode: a cut wherever the distance reaches both bounds; no score, no entry, the release number stays. */
@@ -145,7 +145,7 @@ static void none_run(void)
         const struct step step = call(7, n, previous);
         const bool cut = n - previous >= 12;
         EXPECT_NUMBER(detector_step(&detector, &step), cut ? 1 : 0);
-        const uint64_t want[NUMBERS] = {64, 48, 8, 5, NONE, 5, 12, 5, n, 7, 1, 1, 0};
+        const uint64_t want[BRINE_NUMBERS] = {64, 48, 8, 5, NONE, 5, 12, 5, n, 7, 1, 1, 0};
         EXPECT(lent_holds(&detector.lent_numbers, want));
         EXPECT(lent_same(&detector.lent_scores));
         previous = cut ? n : previous;

@@ -25,7 +25,8 @@ static void refuses_number(size_t place, uint64_t value)
 {
     const struct step step = next_step();
     running(STANDARD, 5);
-    memset(detector.scores + 50, 0, 30 * sizeof(double)); /* a larger count finds good entries */
+    for (size_t i = detector.numbers[COUNT] * BRINE_SCORE_DOUBLES; i < BRINE_SCORES; i++)
+        detector.scores[i] = 0; /* a larger count finds good entries */
     detector.numbers[place] = value;
     detector_refuses(&detector, &step, 11);
 }
@@ -45,7 +46,7 @@ static void refusal_11_numbers(void)
     refuses_number(MODE, 3);
     refuses_number(MODE, ((uint64_t)1 << 32) + 2);
     refuses_number(COUNT, 11);
-    refuses_number(COUNT, 16);
+    refuses_number(COUNT, BRINE_ENTRIES);
     refuses_number(COUNT, UINT64_MAX);
     refuses_number(COUNT, ((uint64_t)1 << 32) + 10);
     refuses_number(COUNT, 5);  /* o is 5 */
@@ -59,10 +60,10 @@ static void refusal_11_counts(void)
 {
     struct step step = step_of(2, 1, 0, 5, 3, 40);
     detector_make(&detector, STANDARD, 4);
-    memset(detector.scores, 0, SCORES * sizeof(double));
-    detector.numbers[COUNT] = 16;
+    memset(detector.scores, 0, BRINE_SCORES * sizeof(double));
+    detector.numbers[COUNT] = BRINE_ENTRIES;
     detector_refuses(&detector, &step, 11);
-    detector.numbers[COUNT] = 15;
+    detector.numbers[COUNT] = BRINE_ENTRIES - 1;
     EXPECT_NUMBER(detector_step(&detector, &step), 2);
     detector_make(&detector, STANDARD, 4);
     detector.numbers[OFFSET] = 1;
@@ -78,20 +79,24 @@ static void refusal_11_entries(void)
     const struct step step = next_step();
     for (size_t entry = 0; entry < 10; entry++) {
         running(STANDARD, 5);
-        detector.scores[5 * entry + INTER] = bad[entry % 5];
+        detector.scores[BRINE_SCORE_DOUBLES * entry + INTER] = bad[entry % 5];
         detector_refuses(&detector, &step, 11);
     }
     running(STANDARD, 5);
     for (size_t entry = 0; entry < 10; entry++)
-        detector.scores[5 * entry + INTER] = -0.0; /* not below 0 */
-    for (size_t entry = 10; entry < ENTRIES; entry++)
-        detector.scores[5 * entry + INTER] = NAN; /* past the count: no part of the state */
+        detector.scores[BRINE_SCORE_DOUBLES * entry + INTER] = -0.0; /* not below 0 */
+    for (size_t entry = 10; entry < BRINE_ENTRIES; entry++)
+        detector.scores[BRINE_SCORE_DOUBLES * entry + INTER] = NAN; /* past the count: no part of the state */
     EXPECT(detector_step(&detector, &step) >= 2);
 }
 
 static void refusal_11_lengths(void)
 {
-    static const size_t lengths[][2] = {{12, 80}, {14, 80}, {0, 80}, {13, 79}, {13, 81}, {13, 0}, {13, 75}};
+    static const size_t lengths[][2] = {
+        {BRINE_NUMBERS - 1, BRINE_SCORES}, {BRINE_NUMBERS + 1, BRINE_SCORES}, {0, BRINE_SCORES},
+        {BRINE_NUMBERS, BRINE_SCORES - 1}, {BRINE_NUMBERS, BRINE_SCORES + 1}, {BRINE_NUMBERS, 0},
+        {BRINE_NUMBERS, BRINE_SCORES - BRINE_SCORE_DOUBLES},
+    };
     const struct step s = next_step();
     running(STANDARD, 5);
     lent_keep(&detector.lent_numbers);
@@ -145,9 +150,7 @@ static void refusal_8(void)
     REFUSED(8, s = step_of(8, 30, 12, 5, 3, 40));
     REFUSED(8, s.set = SIZE_MAX);
     detector_make(&detector, STANDARD, 5);
-    struct step step = step_of(16, 1, 0, 1, 1, 1);
-    step.set = 17;
-    step.inter_count = step.importance_count = step.threshold_count = 16;
+    struct step step = step_of(BRINE_SET_LIMIT + 1, 1, 0, 1, 1, 1);
     detector_refuses(&detector, &step, 8);
 }
 
@@ -211,7 +214,7 @@ static void accepted(void)
 
 static void order(void)
 {
-    const struct step bad = {.set = 17, .frame = 0, .inter_count = 1};
+    const struct step bad = {.set = BRINE_SET_LIMIT + 1, .frame = 0, .inter_count = 1};
     running(STANDARD, 5);
     detector.numbers[DEPTH] = 9;
     detector_refuses(&detector, &bad, 11);
@@ -235,7 +238,7 @@ static void carried(void)
     detector.numbers[MAX] = huge + 2;
     detector.numbers[FIRST] = huge + 3;
     EXPECT_NUMBER(detector_step(&detector, &step), 2);
-    const uint64_t want[NUMBERS] = {64, 48, 8, huge, STANDARD, huge + 1, huge + 2, 5, 30, 7, huge + 3, huge + 3, 10};
+    const uint64_t want[BRINE_NUMBERS] = {64, 48, 8, huge, STANDARD, huge + 1, huge + 2, 5, 30, 7, huge + 3, huge + 3, 10};
     EXPECT(lent_holds(&detector.lent_numbers, want));
 }
 
@@ -245,7 +248,7 @@ static void short_set(void)
     const struct step step = step_of(4, 30, 12, 5, 3, 40);
     running(STANDARD, 5);
     EXPECT_NUMBER(detector_step(&detector, &step), 0);
-    const uint64_t want[NUMBERS] = {64, 48, 8, 5, STANDARD, 0, UINT32_MAX, 5, 30, 4, 20, 20, 10};
+    const uint64_t want[BRINE_NUMBERS] = {64, 48, 8, 5, STANDARD, 0, UINT32_MAX, 5, 30, 4, 20, 20, 10};
     EXPECT(lent_holds(&detector.lent_numbers, want));
     EXPECT(lent_same(&detector.lent_scores));
 }

@@ -4,8 +4,7 @@
 #include <string.h>
 
 enum {
-    LARGEST_SET = 16, /* frames of a set, at most */
-    LARGEST_LISTS = LARGEST_SET - 1
+    LARGEST_LISTS = BRINE_SET_LIMIT - 1 /* pairs of a set, at most */
 };
 
 struct driver {

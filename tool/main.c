@@ -34,9 +34,9 @@ static const char help[] =
     "\n"
     "  brinepulley --help, --version\n"
     "\n"
-    "Exit status: 0 done; 1 refused, with document 01's number; 2 a wrong command\n"
-    "line, or a file that cannot be read. In the cases 1 and 2 nothing is written\n"
-    "to the standard output.\n";
+    "Exit status: 0 done; 1 refused, with the refusal's number (docs/RULES.md says\n"
+    "more); 2 a wrong command line, or a file that cannot be read. In the cases 1\n"
+    "and 2 nothing is written to the standard output.\n";
 
 static enum status write_text(const char *text)
 {

@@ -1,13 +1,19 @@
 #include "say.h"
 
+#include "brinepulley.h"
+
 #include <inttypes.h>
 #include <stdarg.h>
 #include <stdio.h>
 #include <stdlib.h>
 #include <string.h>
 
-/* Document 01's words, by number. There n is the frame's number, p the previous keyframe's, L the set's length, A the
-   lookahead offset and o the offset. */
+/* The text of a name's number. */
+#define TEXT_OF(number) #number
+#define TEXT(name) TEXT_OF(name)
+
+/* Document 01's words, by number, with the header's limits. There n is the frame's number, p the previous keyframe's, L the
+   set's length, A the lookahead offset and o the offset. */
 static const char *const refusals[] = {
     [1] = "a side is 0 or above 8,192, or stride below width",
     [2] = "origin + (height − 1) × stride + width exceeds the samples; a transform list hasn't its own transform's length, "
@@ -17,12 +23,12 @@ static const char *const refusals[] = {
     [5] = "depth isn't 8",
     [6] = "a resolution side outside 1 to 8,192, or mode not 0 None, 1 Fast, 2 Standard",
     [7] = "n is 0 or at or above 2^32, p > n, or n not one above the last accepted call's, if there was one",
-    [8] = "L above 16, or above the last accepted call's, if there was one",
+    [8] = "L above " TEXT(BRINE_SET_LIMIT) ", or above the last accepted call's, if there was one",
     [9] = "L = 1, A = 0, o = 0, mode not None (the crate stops there)",
     [10] = "a read list of the wrong length; inter cost NaN, infinite or below 0; importance or threshold infinite or "
            "below 0 (NaN allowed); a transform entry out of range",
-    [11] = "a state with settings that 5 or 6 forbid; over 15 entries, over 10 if A = 5; o not below the count, or o not A "
-           "when empty; an entry whose inter cost 10 forbids",
+    [11] = "a state with settings that 5 or 6 forbid; " TEXT(BRINE_ENTRIES) " entries or more, over 10 if A = 5; o not below "
+           "the count, or o not A when empty; an entry whose inter cost 10 forbids",
 };
 
 static void say_line(const char *format, va_list words)

@@ -1,8 +1,9 @@
 //! Calls that are refused. The reading says with which number; the crate is given the same call where it can be.
-use crate::detector_cases::{Desk, LENGTHS, put_call, put_state};
+use crate::desk::{Desk, LENGTHS, put_call, put_state};
 use crate::random::Random;
-use crate::reading::{self, COUNT, Call, LAST, LENGTH, OFFSET, State};
+use crate::reading::{self, Call, State};
 use crate::run::ask_refused;
+use crate::sizes::{COUNT, LAST, LENGTH, OFFSET, ROOM, SCORE, SET_LIMIT};
 use crate::tally::Ran;
 use crate::values::{bad_inter, bad_other};
 
@@ -24,12 +25,13 @@ pub fn settings(r: &mut Random, mut n: [u64; 7]) -> ([u64; 7], (u64, u64)) {
 }
 
 fn odd_lengths(r: &mut Random) -> (u64, u64) {
-    r.of(&[(12, 80), (14, 80), (13, 79), (13, 81), (0, 0), (13, 0), (0, 80), (80, 13)])
+    let (n, s) = LENGTHS;
+    r.of(&[(n - 1, s), (n + 1, s), (n, s - 1), (n, s + 1), (0, 0), (n, 0), (0, s), (s, n)])
 }
 
 /// One wrong thing in a state.
 fn state(r: &mut Random, s: &mut State) {
-    let count = s.numbers[COUNT];
+    let (count, room) = (s.numbers[COUNT], ROOM as u64);
     match r.below(9) {
         0 => s.numbers[0] = r.of(&[0, 8193, u64::MAX, (1 << 32) + 16]),
         1 => s.numbers[1] = r.of(&[0, 8193, u64::MAX, (1 << 32) + 16]),
@@ -38,13 +40,13 @@ fn state(r: &mut Random, s: &mut State) {
         4 => s.numbers[OFFSET] = r.of(&[0, count, count.wrapping_add(1), u64::MAX, count.wrapping_sub(1).wrapping_add(1 << 32)]),
         5 => {
             // Too many entries, and nothing else that is wrong with them.
-            s.numbers[COUNT] = r.of(&[16, 16, 17, 11, 11, 15, count.wrapping_add(1 << 32), u64::MAX, 0]);
-            s.places.chunks_mut(5).for_each(|e| e[0] = 1.0);
+            s.numbers[COUNT] = r.of(&[room, room, room + 1, 11, 11, room - 1, count.wrapping_add(1 << 32), u64::MAX, 0]);
+            s.places.chunks_mut(SCORE).for_each(|e| e[0] = 1.0);
         }
         6 => s.numbers[LAST] = r.of(&[u64::MAX, 1 << 32, (1 << 32) - 1]),
         _ => {
-            let at = r.below(count.clamp(1, 16)) as usize;
-            s.places[at * 5] = bad_inter(r);
+            let at = r.below(count.clamp(1, room)) as usize;
+            s.places[at * SCORE] = bad_inter(r);
         }
     }
 }
@@ -63,10 +65,10 @@ fn call(r: &mut Random, s: &State, c: &mut Call) {
     match r.below(9) {
         0 => c.frame = r.of(&[0, n.wrapping_add(1), n.wrapping_sub(1), 1 << 32, u64::MAX, n.wrapping_add(1 << 32)]),
         1 => c.previous = r.of(&[n.wrapping_add(1), u64::MAX, 1 << 40]),
-        2 => c.set = r.of(&[17, u64::MAX, 1 << 32, 1 << 63, c.set.wrapping_add(1 << 32)]),
+        2 => c.set = r.of(&[SET_LIMIT + 1, u64::MAX, 1 << 32, 1 << 63, c.set.wrapping_add(1 << 32)]),
         3 => {
-            let free = s.numbers[LAST] == 0 || s.numbers[LENGTH] > 16;
-            resize(c, if free { 17 } else { s.numbers[LENGTH] + 1 });
+            let free = s.numbers[LAST] == 0 || s.numbers[LENGTH] > SET_LIMIT;
+            resize(c, if free { SET_LIMIT + 1 } else { s.numbers[LENGTH] + 1 });
         }
         4 => {
             let list = r.below(3);

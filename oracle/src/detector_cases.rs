@@ -1,19 +1,14 @@
 //! Films from a fresh detector and from any state that refusal 11 lets in, with damaged calls between.
 use crate::attempt::ran;
 use crate::damage;
+use crate::desk::{Desk, LENGTHS, put_call, put_state};
 use crate::random::Random;
-use crate::reading::{self, COUNT, Call, LAST, LENGTH, NONE, NUMBERS, SCORES, STANDARD, Score, State};
+use crate::reading::{self, Call, NONE, STANDARD, Score, State};
 use crate::run::{Detector, Film, LOOKAHEAD_MOST, detector, possible};
-use crate::stream::{Kind, Stream};
-use crate::tally::{Ran, Tally};
+use crate::sizes::{LAST, LENGTH, NUMBERS, OFFSET, ROOM, SCORE, SCORES, SET_LIMIT};
+use crate::stream::Kind;
+use crate::tally::Ran;
 use crate::values::{Taste, any_real, same};
-
-pub const LENGTHS: (u64, u64) = (NUMBERS as u64, SCORES as u64);
-
-pub struct Desk<'a> {
-    pub out: &'a mut Stream,
-    pub tally: &'a mut Tally,
-}
 
 /// Width, height, depth, lookahead, mode, min, max.
 fn settings(r: &mut Random) -> [u64; 7] {
@@ -23,7 +18,7 @@ fn settings(r: &mut Random) -> [u64; 7] {
     let lookahead = match r.below(20) {
         0 => r.of(&[u64::MAX, 1 << 32, LOOKAHEAD_MOST + 1, LOOKAHEAD_MOST]),
         1..=9 => r.from_to(4, 6),
-        _ => r.below(17),
+        _ => r.below(SET_LIMIT + 1),
     };
     let bound = |r: &mut Random| match r.below(6) {
         0 => r.of(&[u64::MAX, 1 << 32, 0]),
@@ -57,24 +52,6 @@ fn fresh(desk: &mut Desk, n: &[u64; 7], lengths: (u64, u64), before: &State) -> 
     desk.out.words(n).word(lengths.0).word(lengths.1).answer(-i64::from(fault)).words(&s.numbers);
     desk.out.end(Kind::Fresh);
     s
-}
-
-pub fn put_state(desk: &mut Desk, s: &State) {
-    desk.out.words(&s.numbers).reals(&s.places);
-    desk.out.end(Kind::State);
-}
-
-/// Writes a call with the answer that is due.
-pub fn put_call(desk: &mut Desk, lengths: (u64, u64), c: &Call, answer: i64, after: &State, given: Option<Score>) {
-    desk.out.word(lengths.0).word(lengths.1).word(c.set).word(c.frame).word(c.previous);
-    desk.out.reals(&c.inter).reals(&c.importance).reals(&c.threshold).answer(answer);
-    if answer >= 0 {
-        desk.out.words(&after.numbers);
-        let count = after.numbers[COUNT] as usize;
-        desk.out.reals(&after.places[..count * 5]);
-        desk.out.reals(given.as_ref().map_or(&[], |g| &g[..]));
-    }
-    desk.out.end(Kind::Step);
 }
 
 /// An accepted call: the crate's answer if it can be asked, beside the reading's.
@@ -114,7 +91,7 @@ fn film(desk: &mut Desk, r: &mut Random, mut s: State, first: u64, calls: u64) {
     let film = Film::new(r, &s, first, calls);
     let mut d = (film.real && possible(&s)).then(|| film.placed(&s, first));
     let mut previous = first - r.below(first.min(20) + 1);
-    let mut set = if r.once_in(3) { r.below(17) } else { r.of(&[2, 3, 6, 7, 7, 8, 16, 16]) };
+    let mut set = if r.once_in(3) { r.below(SET_LIMIT + 1) } else { r.of(&[2, 3, 6, 7, 7, 8, SET_LIMIT, SET_LIMIT]) };
     for n in first..first + calls {
         if s.numbers[LAST] != 0 {
             set = set.min(s.numbers[LENGTH]);
@@ -150,10 +127,10 @@ fn any_state(r: &mut Random) -> State {
     s.numbers[..7].copy_from_slice(&settings(r));
     s.places.iter_mut().for_each(|x| *x = any_real(r));
     let taste = Taste::new(r);
-    let most = if s.ahead() == 5 { 10 } else { 15 };
+    let most = if s.ahead() == 5 { 10 } else { ROOM as u64 - 1 };
     let count = if r.once_in(8) { 0 } else { r.from_to(1, most) };
     let offset = if count == 0 { s.ahead() } else { r.below(count) };
-    for place in s.places.chunks_mut(5).take(count as usize) {
+    for place in s.places.chunks_mut(SCORE).take(count as usize) {
         place[0] = taste.inter(r);
         if r.once_in(2) {
             place[1] = taste.importance(r);
@@ -169,8 +146,8 @@ fn any_state(r: &mut Random) -> State {
         _ => r.below(1 << 20),
     };
     let odd = |r: &mut Random| r.of(&[0, 1, 7, last, last + 1, u64::MAX, 1 << 40]);
-    let length = if r.once_in(4) { r.of(&[u64::MAX, 17, 1 << 32]) } else { r.below(17) };
-    s.numbers[7..].copy_from_slice(&[offset, last, length, odd(r), odd(r), count]);
+    let length = if r.once_in(4) { r.of(&[u64::MAX, SET_LIMIT + 1, 1 << 32]) } else { r.below(SET_LIMIT + 1) };
+    s.numbers[OFFSET..].copy_from_slice(&[offset, last, length, odd(r), odd(r), count]);
     s
 }
 

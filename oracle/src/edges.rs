@@ -1,11 +1,13 @@
 //! Document 01's values at the edges, the starred ones and the others.
-use crate::detector_cases::{Desk, LENGTHS, accepted, put_state};
+use crate::desk::{Desk, LENGTHS, put_state};
+use crate::detector_cases::accepted;
 use crate::list_cases::{satd_of, scale_of};
 use crate::measures_reading::Lent;
 use crate::plane_cases::{intra_of, pair_of};
 use crate::random::Random;
-use crate::reading::{self, FAST, LAST, LENGTH, NONE, NUMBERS, SCORES, STANDARD, State};
+use crate::reading::{self, FAST, NONE, STANDARD, State};
 use crate::run::Film;
+use crate::sizes::{LAST, LENGTH, NUMBERS, SCORES, SET_LIMIT};
 
 fn flat(width: u64, height: u64, value: u8) -> Lent {
     Lent { samples: vec![value; (width * height) as usize], width, height, stride: width, origin: 0 }
@@ -78,17 +80,17 @@ fn calls(desk: &mut Desk) {
     for n in [5, 1] {
         first(desk, [64, 64, 8, 5, STANDARD, 0, never], 7, n, 0, [1.0, 50.0, 0.0]);
     }
-    // 16 frames without lookahead leave 15 entries.
+    // The longest set without lookahead leaves one entry less than there is room for.
     for mode in [FAST, STANDARD] {
-        first(desk, [64, 64, 8, 0, mode, 0, never], 16, 1, 0, [19.0, 50.0, 0.0]);
-        first(desk, [640, 480, 8, 0, mode, 0, never], 16, 1, 0, [19.0, 50.0, 0.0]);
+        first(desk, [64, 64, 8, 0, mode, 0, never], SET_LIMIT, 1, 0, [19.0, 50.0, 0.0]);
+        first(desk, [640, 480, 8, 0, mode, 0, never], SET_LIMIT, 1, 0, [19.0, 50.0, 0.0]);
     }
 }
 
 /// A detector that ends: no number after 2^32 − 1 is accepted.
 fn last_number(desk: &mut Desk) {
     let mut s = fresh([64, 64, 8, 5, NONE, 0, 0]);
-    (s.numbers[LAST], s.numbers[LENGTH]) = ((1 << 32) - 1, 16);
+    (s.numbers[LAST], s.numbers[LENGTH]) = ((1 << 32) - 1, SET_LIMIT);
     let film = Film::fixed(&s, 1 << 32, [0.0; 3]);
     let c = film.call(&mut Random::new(0), STANDARD, 7, 1 << 32, 0);
     put_state(desk, &s);

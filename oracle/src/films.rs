@@ -8,8 +8,9 @@ use v_frame::{
     plane::{Plane, PlaneGeometry},
 };
 
-use crate::detector_cases::Desk;
+use crate::desk::Desk;
 use crate::random::Random;
+use crate::sizes::SET_LIMIT;
 use crate::stream::Kind;
 
 type Scenes = scenes::SceneChangeDetector<u8>;
@@ -57,7 +58,7 @@ impl Film {
         let large = mode == 1 && r.once_in(3);
         let (width, height) = if large { (r.of(&[242, 250]), 241) } else { (r.from_to(1, 40), r.from_to(1, 40)) };
         let count = if large { r.from_to(2, 12) } else { r.from_to(1, 60) };
-        let ahead = if r.once_in(2) { r.from_to(4, 6) } else { r.from_to(1, 17) };
+        let ahead = if r.once_in(2) { r.from_to(4, 6) } else { r.from_to(1, SET_LIMIT + 1) };
         let (min, max) = (r.below(4), if r.once_in(2) { 4 + r.below(20) } else { u64::from(u32::MAX) });
         let planes = planes(r, width as usize, height as usize, count);
         let feed = |r: &mut Random| Fed { inter: r.part() * r.part() * 1600.0, ..Fed::default() };

@@ -1,6 +1,7 @@
 //! What stands in the fixed list: the values at the edges, then measures and calls from a seed. Planes are small.
 use crate::damage;
-use crate::detector_cases::{self, Desk, LENGTHS, put_state};
+use crate::desk::{Desk, LENGTHS, put_state};
+use crate::detector_cases;
 use crate::edges;
 use crate::list_cases;
 use crate::measures_reading::Lent;

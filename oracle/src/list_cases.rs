@@ -3,7 +3,7 @@ use scenes::SceneDetectionSpeed;
 use v_frame::plane::{Plane, PlaneGeometry};
 
 use crate::attempt::ran;
-use crate::detector_cases::Desk;
+use crate::desk::Desk;
 use crate::measures_reading as read;
 use crate::plane_cases::put_threshold;
 use crate::random::Random;

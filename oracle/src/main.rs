@@ -6,6 +6,7 @@
 mod attempt;
 mod damage;
 mod decide;
+mod desk;
 mod detector_cases;
 mod edges;
 mod films;
@@ -19,12 +20,13 @@ mod pool;
 mod random;
 mod reading;
 mod run;
+mod sizes;
 mod stream;
 mod tally;
 mod values;
 mod words;
 
-use detector_cases::Desk;
+use desk::Desk;
 use random::Random;
 use stream::Stream;
 use tally::Tally;

@@ -8,7 +8,7 @@ use v_frame::{
 };
 
 use crate::attempt::ran;
-use crate::detector_cases::Desk;
+use crate::desk::Desk;
 use crate::measures_reading::{self as read, Lent};
 use crate::random::Random;
 use crate::stream::{Kind, Stream};

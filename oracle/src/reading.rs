@@ -1,16 +1,13 @@
 //! Document 01's detector as a program, in its own order and words. It says which refusal is due, and what the crate's
 //! answer should be; where the two differ the oracle says so.
+pub use crate::sizes::{COUNT, FIRST, LAST, LENGTH, NUMBERS, OFFSET, RELEASE, ROOM, SCORE, SCORES, SET_LIMIT};
 
 pub const NONE: u64 = 0;
 pub const FAST: u64 = 1;
 pub const STANDARD: u64 = 2;
 
-pub const NUMBERS: usize = 13;
-pub const ROOM: usize = 16;
-pub const SCORES: usize = ROOM * 5;
-
 /// Inter cost, importance, backward, forward, threshold.
-pub type Score = [f64; 5];
+pub type Score = [f64; SCORE];
 
 /// The state as it is lent: width, height, depth, lookahead, mode, min, max, offset, last number, last length, first
 /// number, release number, count; and the entries' places.
@@ -19,13 +16,6 @@ pub struct State {
     pub numbers: [u64; NUMBERS],
     pub places: [f64; SCORES],
 }
-
-pub const OFFSET: usize = 7;
-pub const LAST: usize = 8;
-pub const LENGTH: usize = 9;
-pub const FIRST: usize = 10;
-pub const RELEASE: usize = 11;
-pub const COUNT: usize = 12;
 
 #[derive(Clone, Debug)]
 pub struct Call {
@@ -50,13 +40,13 @@ impl State {
     }
     pub fn entries(&self) -> Vec<Score> {
         let count = self.numbers[COUNT].min(ROOM as u64) as usize;
-        self.places.chunks(5).take(count).map(|c| [c[0], c[1], c[2], c[3], c[4]]).collect()
+        self.places.chunks(SCORE).take(count).map(|c| [c[0], c[1], c[2], c[3], c[4]]).collect()
     }
     /// Entries below the count go to their places; the other places stay.
     pub fn put(&mut self, offset: u64, entries: &[Score]) {
         self.numbers[OFFSET] = offset;
         self.numbers[COUNT] = entries.len() as u64;
-        for (place, entry) in self.places.chunks_mut(5).zip(entries) {
+        for (place, entry) in self.places.chunks_mut(SCORE).zip(entries) {
             place.copy_from_slice(entry);
         }
     }
@@ -107,7 +97,7 @@ fn state_fault(s: &State) -> bool {
     if settings_fault_6(n[0], n[1], n[4]) || n[2] != 8 {
         return true;
     }
-    let most = if s.ahead() == 5 { 10 } else { 15 };
+    let most = if s.ahead() == 5 { 10 } else { ROOM as u64 - 1 };
     if n[COUNT] > most {
         return true;
     }
@@ -137,7 +127,7 @@ pub fn step_fault(lengths: (u64, u64), s: &State, c: &Call) -> u32 {
     if c.frame == 0 || c.frame >= 1 << 32 || c.previous > c.frame || (before && c.frame - 1 != s.numbers[LAST]) {
         return 7;
     }
-    if c.set > 16 || (before && c.set > s.numbers[LENGTH]) {
+    if c.set > SET_LIMIT || (before && c.set > s.numbers[LENGTH]) {
         return 8;
     }
     if c.set == 1 && s.ahead() == 0 && s.offset() == 0 && s.mode() != NONE {

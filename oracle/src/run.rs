@@ -11,7 +11,8 @@ use v_frame::{
 
 use crate::attempt::attempt;
 use crate::random::Random;
-use crate::reading::{COUNT, Call, FAST, NONE, OFFSET, STANDARD, Score, State};
+use crate::reading::{Call, FAST, NONE, STANDARD, Score, State};
+use crate::sizes::{COUNT, OFFSET, ROOM, SET_LIMIT};
 use crate::values::Taste;
 
 pub type Detector = SceneChangeDetector<u8>;
@@ -41,6 +42,9 @@ pub fn detector(n: &[u64]) -> Detector {
 /// The crate reserves room for the whole lookahead, so an enormous one ends the program.
 pub const LOOKAHEAD_MOST: u64 = 1 << 20;
 
+/// How many frames a film has beyond its calls: the longest set, and what damage makes of it.
+const BEYOND: u64 = SET_LIMIT + 24;
+
 pub fn possible(s: &State) -> bool {
     s.numbers[3] <= LOOKAHEAD_MOST
 }
@@ -66,7 +70,7 @@ impl Film {
         let taste = Taste::new(r);
         let pixels = if possible(s) { detector(&s.numbers).door_pixels() as u64 } else { 1 };
         let real = s.mode() != FAST || !r.once_in(8);
-        let frames = (0..calls + 40).map(|i| {
+        let frames = (0..calls + BEYOND).map(|i| {
             let difference = taste.difference(r, pixels);
             let inter = match s.mode() {
                 FAST if real => difference as f64 / pixels as f64,
@@ -84,7 +88,7 @@ impl Film {
         let difference = inter as u64 * detector(&s.numbers).door_pixels() as u64;
         let fed = Fed { inter, importance, threshold };
         let frame = |i| Arc::new(Frame::of(Plane::marked(Mark { frame: first + i, difference }), fed));
-        Film { first, frames: (0..40).map(frame).collect(), real: true }
+        Film { first, frames: (0..BEYOND).map(frame).collect(), real: true }
     }
 
     fn frame(&self, number: u64) -> Option<&Arc<Frame<u8>>> {
@@ -154,7 +158,7 @@ pub fn ask_refused(s: &State, c: &Call, fault: u32) -> Option<bool> {
         STANDARD => &[&c.inter, &c.importance, &c.threshold],
         _ => return None,
     };
-    let large = n[..4].iter().any(|&x| x >= 1 << 20) || n[COUNT] > 16 || c.set > 40 || n[OFFSET] > 40;
+    let large = n[..4].iter().any(|&x| x >= 1 << 20) || n[COUNT] > ROOM as u64 || c.set > BEYOND || n[OFFSET] > BEYOND;
     if large || lists.iter().any(|l| l.len() as u64 != due) {
         return None;
     }
