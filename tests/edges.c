@@ -189,7 +189,32 @@ static void longest_set(void)
     EXPECT(detector_kept(&detector));
 }
 
+/* The call that docs/RULES.md works out by hand: every entry that it names. */
+static void worked_out(void)
+{
+    static const double inter[] = {40, 3, 2, 4, 3, 2}, importance[] = {12, 1, 1, 1, 1, 1};
+    static const double forward[] = {0, 1, 1, 0, 0, 36}; /* the newest pair first */
+    struct detector detector;
+    detector_make(&detector, STANDARD, 5);
+    detector.numbers[MIN] = 3;
+    detector.numbers[MAX] = 250;
+    struct step step = step_of(7, 5, 0, 0, 0, 10);
+    memcpy(step.inter, inter, sizeof inter);
+    memcpy(step.importance, importance, sizeof importance);
+    EXPECT_NUMBER(detector_step(&detector, &step), 3);
+    const uint64_t want[BRINE_NUMBERS] = {64, 48, 8, 5, STANDARD, 3, 250, 5, 5, 7, 5, 5, 6};
+    EXPECT(lent_holds(&detector.lent_numbers, want));
+    for (size_t entry = 0; entry < 6; entry++) {
+        EXPECT_DOUBLE(detector_score(&detector, entry, INTER), inter[5 - entry]);
+        EXPECT_DOUBLE(detector_score(&detector, entry, IMPORTANCE), importance[5 - entry]);
+        EXPECT_DOUBLE(detector_score(&detector, entry, BACKWARD), entry == 5 ? DBL_MAX : 0.0);
+        EXPECT_DOUBLE(detector_score(&detector, entry, FORWARD), forward[entry]);
+        EXPECT_DOUBLE(detector_score(&detector, entry, THRESHOLD), 10.0);
+    }
+}
+
 const struct test edge_tests[] = {
+    {"edges: the call that docs/RULES.md works out", worked_out},
     {"edges: small edge 240, 241, 1600, 1601", scale},
     {"edges: blocks of 0 against 7 and 6, sums 31 and 32", importance},
     {"edges: planes of 15 × 8 and 7 × 8", blocks},
