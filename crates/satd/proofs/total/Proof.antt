@@ -10,15 +10,16 @@ use Rattle.sums.specs.Sums.{sumBelow}
 use Rattle.sums.proofs.SumLaws.{sum-none, sum-more, sum-most, sum-to}
 use Rattle.hadamard.specs.Transform.{entryMost}
 use Rattle.hadamard.proofs.SignedLaws.{read-at}
-use Rattle.satd.specs.Satd.{side}
+use Rattle.plane.specs.Blocks.{blockSide}
+use Rattle.satd.specs.Satd.{blockSize}
 use Rattle.satd.proofs.total.Statement.{statement}
 use Rattle.satd.proofs.total.Tie as tie
 
 abbrev Inv-loop : tie.InvT-loop
-Inv-loop block sum₀ i₀ sum i = (i ≤ side * side) × (sum ≡ sumBelow i (λ (t : ℕ). natAbs (getD block t (pos 0))))
+Inv-loop block sum₀ i₀ sum i = (i ≤ blockSize) × (sum ≡ sumBelow i (λ (t : ℕ). natAbs (getD block t (pos 0))))
 
 abbrev μ-loop : tie.MeasureT-loop
-μ-loop block sum₀ i₀ sum i = side * side - i
+μ-loop block sum₀ i₀ sum i = blockSize - i
 
 loop-holds : tie.Need-loop-holds Inv-loop μ-loop
 loop-holds c = (search needs, sum-none _)
@@ -47,7 +48,7 @@ add-sum c =
     let l = c .before .before .before in
     let w = l .before .pre .1 in
     let i = l .loop .i in
-    omega (arith, told c, w .most i, l .loop .inv, sum-most (side * (side * entryMost)) i (λ (t : ℕ). natAbs (getD (l .before .args .block .now) t (pos 0))) (λ t _. w .most t))
+    omega (arith, told c, w .most i, l .loop .inv, sum-most (blockSide * (blockSide * entryMost)) i (λ (t : ℕ). natAbs (getD (l .before .args .block .now) t (pos 0))) (λ t _. w .most t))
 
 add-i : tie.Need-add-i Inv-loop μ-loop
 add-i c = search needs
@@ -61,7 +62,7 @@ loop-again c =
     (search needs, omega (arith, told c, l .loop .inv .1, sum-more (l .loop .i) (λ (t : ℕ). natAbs (getD (l .before .args .block .now) t (pos 0)))))
 
 returns : tie.Need-returns Inv-loop μ-loop
-returns c = let l = c .before in sum-to (l .loop .sum) (l .loop .i) (side * side) (λ (t : ℕ). natAbs (getD (l .before .args .block .now) t (pos 0))) (l .loop .inv .1) (omega arith)
+returns c = let l = c .before in sum-to (l .loop .sum) (l .loop .i) blockSize (λ (t : ℕ). natAbs (getD (l .before .args .block .now) t (pos 0))) (l .loop .inv .1) (omega arith)
 
 pub total-spec : {M : Type 1} → statement M
 total-spec =
