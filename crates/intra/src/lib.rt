@@ -8,38 +8,38 @@ ghost use lib.ListN.{length, getD};
 ghost use Rattle.answer.specs.Answer.{wholeAnswer};
 ghost use Rattle.plane.specs.Blocks.{blockSide, blocksAcross, blocksDown, blockCount};
 ghost use Rattle.plane.specs.Planes.{sizesFault};
-ghost use Rattle.satd.specs.Satd.{satdValue};
-ghost use Rattle.sums.specs.Table.{table};
+ghost use Rattle.satd.specs.Satd.{blockSize};
 ghost use Rattle.sums.specs.Written.{written};
-ghost use Rattle.intra.specs.Fill.{flat, inRun, filled, workAfter};
-ghost use Rattle.intra.specs.Costs.{blockSize, costAt, costsAfter, intraFault, intraOf, workOf, costsOf, prediction, squareAt};
+ghost use Rattle.intra.specs.Fill.{inRun, filled, workAfter};
+ghost use Rattle.intra.specs.Costs.{costAt, costsAfter, intraFault, intraOf, workOf, costsOf};
+ghost use Rattle.intra.specs.Needs.{SquareIn, squareOf, squareCost};
 
 pub mod standard;
 
-// The side of a block, its samples, and the flat prediction.
+// The side of a block, and the flat prediction of samples of 8 bits.
 const SIDE: usize = 8;
 
 const FLAT: u8 = 128;
 
 // Eight flat samples from the start of a part on.
-fn fill_row(part: &mut [u8])
+fn fill_row(part: &mut [u8], flat: u8)
     requires { ⌜ blockSide ≤ length (now part) ⌝ }
     ensures { λ _. ⌜ now (part .exit) ≡ written (λ (k : ℕ). ltb k blockSide) (λ (k : ℕ). flat) (now (part .entry)) ⌝ }
 {
     for x in 0..SIDE {
-        part[x] = FLAT;
+        part[x] = flat;
     }
 }
 
 // The eight rows of a block that starts at a place of the work plane, each from the block's own column onward:
 // `pred_dc_128`.
-fn fill_block(work: &mut [u8], start: usize, stride: usize)
-    requires { ⌜ ((j : ℕ) → j < blockSide → start + j * stride + blockSide ≤ length (now work)) ⌝ }
-    ensures { λ _. ⌜ now (work .exit) ≡ filled start stride blockSide blockSide (now (work .entry)) ⌝ }
+fn fill_block(work: &mut [u8], start: usize, stride: usize, flat: u8)
+    requires { ⌜ SquareIn start stride (length (now work)) ⌝ }
+    ensures { λ _. ⌜ now (work .exit) ≡ filled flat start stride blockSide blockSide (now (work .entry)) ⌝ }
 {
     for y in 0..SIDE {
         let i = start + y * stride;
-        fill_row(&mut work[i..]);
+        fill_row(&mut work[i..], flat);
     }
 }
 
@@ -57,8 +57,8 @@ fn copy_row(to: &mut [u8], from: &[u8])
 // The samples of the block that starts at a place, row by row.
 fn load_block(block: &mut [u8], s: &[u8], start: usize, stride: usize)
     requires { ⌜ length (now block) ≡ blockSize ⌝ }
-    requires { ⌜ ((j : ℕ) → j < blockSide → start + j * stride + blockSide ≤ length (now s)) ⌝ }
-    ensures { λ _. ⌜ now (block .exit) ≡ table blockSize (squareAt (now (s .entry)) start stride) ⌝ }
+    requires { ⌜ SquareIn start stride (length (now s)) ⌝ }
+    ensures { λ _. ⌜ now (block .exit) ≡ squareOf (now (s .entry)) start stride ⌝ }
 {
     for j in 0..SIDE {
         let at = j * SIDE;
@@ -68,13 +68,13 @@ fn load_block(block: &mut [u8], s: &[u8], start: usize, stride: usize)
 }
 
 // The SATD of the block that starts at a place against the flat prediction.
-fn block_cost(s: &[u8], start: usize, stride: usize) -> u32
-    requires { ⌜ ((j : ℕ) → j < blockSide → start + j * stride + blockSide ≤ length (now s)) ⌝ }
-    ensures { λ r. ⌜ r ≡ satdValue (table blockSize (squareAt (now (s .entry)) start stride)) prediction ⌝ }
+fn block_cost(s: &[u8], start: usize, stride: usize, flat: u8) -> u32
+    requires { ⌜ SquareIn start stride (length (now s)) ⌝ }
+    ensures { λ r. ⌜ r ≡ squareCost flat (now (s .entry)) start stride ⌝ }
 {
     let mut block = [0u8; 64];
     load_block(&mut block[..], s, start, stride);
-    let prediction = [FLAT; 64];
+    let prediction = [flat; 64];
     let Whole::Number(cost) = satd::satd8x8(&block[..], &prediction[..]) else {
         return 0;
     };
@@ -82,12 +82,12 @@ fn block_cost(s: &[u8], start: usize, stride: usize) -> u32
 }
 
 // Row y of blocks: each block of the work plane is filled, and its cost goes to its place in the list.
-fn costs_row(p: Plane, s: &[u8], w: Plane, work: &mut [u8], costs: &mut [u32], y: usize)
+fn costs_row(p: Plane, s: &[u8], w: Plane, work: &mut [u8], costs: &mut [u32], y: usize, flat: u8)
     requires { ⌜ sizesFault p (length (now s)) w (length (now work)) ≡ 0 ⌝ }
     requires { ⌜ blockCount p ≤ length (now costs) ⌝ }
     requires { ⌜ y < blocksDown p ⌝ }
-    ensures { λ _. ⌜ now (work .exit) ≡ filled (w .origin + y * blockSide * w .stride) (w .stride) blockSide (blocksAcross w * blockSide) (now (work .entry)) ⌝ }
-    ensures { λ _. ⌜ now (costs .exit) ≡ written (inRun (y * blocksAcross p) (blocksAcross p)) (costAt p (now (s .entry))) (now (costs .entry)) ⌝ }
+    ensures { λ _. ⌜ now (work .exit) ≡ filled flat (w .origin + y * blockSide * w .stride) (w .stride) blockSide (blocksAcross w * blockSide) (now (work .entry)) ⌝ }
+    ensures { λ _. ⌜ now (costs .exit) ≡ written (inRun (y * blocksAcross p) (blocksAcross p)) (costAt flat p (now (s .entry))) (now (costs .entry)) ⌝ }
 {
     let stride = p.stride;
     let stride2 = w.stride;
@@ -96,20 +96,20 @@ fn costs_row(p: Plane, s: &[u8], w: Plane, work: &mut [u8], costs: &mut [u32], y
     let start2 = w.origin + y * SIDE * stride2;
     let first = y * across;
     for x in 0..across {
-        fill_block(work, start2 + x * SIDE, stride2);
-        costs[first + x] = block_cost(s, start + x * SIDE, stride);
+        fill_block(work, start2 + x * SIDE, stride2, flat);
+        costs[first + x] = block_cost(s, start + x * SIDE, stride, flat);
     }
 }
 
 // All whole blocks of a plane and a work plane that are not refused.
-fn all_costs(p: Plane, s: &[u8], w: Plane, work: &mut [u8], costs: &mut [u32])
+fn all_costs(p: Plane, s: &[u8], w: Plane, work: &mut [u8], costs: &mut [u32], flat: u8)
     requires { ⌜ sizesFault p (length (now s)) w (length (now work)) ≡ 0 ⌝ }
     requires { ⌜ blockCount p ≤ length (now costs) ⌝ }
-    ensures { λ _. ⌜ now (work .exit) ≡ workAfter w (now (work .entry)) ⌝ }
-    ensures { λ _. ⌜ now (costs .exit) ≡ costsAfter p (now (s .entry)) (now (costs .entry)) ⌝ }
+    ensures { λ _. ⌜ now (work .exit) ≡ workAfter flat w (now (work .entry)) ⌝ }
+    ensures { λ _. ⌜ now (costs .exit) ≡ costsAfter flat p (now (s .entry)) (now (costs .entry)) ⌝ }
 {
     for y in 0..p.height / SIDE {
-        costs_row(p, s, w, work, costs, y);
+        costs_row(p, s, w, work, costs, y, flat);
     }
 }
 
@@ -145,6 +145,6 @@ pub fn estimate_intra_costs(
     if fault != 0 {
         return Whole::Refused(fault);
     }
-    all_costs(p, s, w, work, costs);
+    all_costs(p, s, w, work, costs, FLAT);
     Whole::Number(((p.height / SIDE) * (p.width / SIDE)) as u64)
 }

@@ -3,6 +3,7 @@ use mathlib.Core.Bool.{Bool, true, false, _||_}
 use mathlib.Core.Path.{_≡_, refl, sym, ap, _∙_}
 use Prim.Native.Nat.{ℕ, zero, suc, _+_}
 use native.Mathlib.Nat.{add-zero, add-suc}
+use native.Mathlib.Numerals.{add-one}
 use Rattle.sums.specs.Any.{anyBelow}
 
 or-assoc : (a b c : Bool) → (a || b) || c ≡ a || (b || c)
@@ -43,3 +44,12 @@ unfolding anyBelow
 any-cut m zero f = rw add-zero (sym (or-false-right (anyBelow m f)))
 any-cut m (suc n) f =
     rw add-suc (ap (λ (b : Bool). b || f (m + n)) (any-cut m n f) ∙ or-assoc (anyBelow m f) (anyBelow n (λ (i : ℕ). f (m + i))) (f (m + n)))
+
+-- no number, and one more
+pub any-zero : (f : ℕ → Bool) → anyBelow 0 f ≡ false
+unfolding anyBelow
+any-zero f = refl
+
+pub any-more : (n : ℕ) (f : ℕ → Bool) → anyBelow n f || f n ≡ anyBelow (n + 1) f
+unfolding anyBelow
+any-more n f = rw add-one
