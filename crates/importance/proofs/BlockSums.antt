@@ -12,7 +12,8 @@ use Rattle.plane.proofs.BlockLaws.{block-place}
 use Rattle.plane.proofs.PlaneLaws.{pair, measured, total-fits}
 use Rattle.sums.specs.Sums.{sumBelow, apart}
 use Rattle.sums.proofs.SumLaws.{sum-ext, sum-most}
-use Rattle.importance.specs.Importance.{blockSum, mean, blockDifference, blocksDifference, importanceTotal, squareSum}
+use Rattle.importance.specs.Importance.{blockSum, mean, blockDifference, blocksDifference, importanceTotal}
+use Rattle.importance.specs.Needs.{squareSum}
 
 -- a block's sum by places is the plane's own
 pub square-is : (p : Plane) (s : List ℕ) (y x : ℕ) → squareSum s (blockStart p y x) (p .stride) ≡ blockSum p s y x
@@ -60,8 +61,8 @@ module _ (k : ℕ) (p : Plane) (a : List ℕ) (q : Plane) (b : List ℕ) (l : (i
   totals-most n = sum-most (blocksAcross p * k) n (blocksDifference p a q b) (λ y _. differences-most y (blocksAcross p))
 
   -- all blocks of two planes that are not refused
-  pub total-most : (depth : ℕ) → k < 2 ^ 16 → pairFault depth p (length a) q (length b) ≡ 0 → importanceTotal p a q b < 2 ^ 42
+  pub total-most : (depth : ℕ) → k < 2 ^ 16 → pairFault depth p a q b ≡ 0 → importanceTotal p a q b < 2 ^ 42
   unfolding importanceTotal
   total-most depth s e =
-      let f = pair p (length a) q (length b) (measured depth p (length a) q (length b) e) .first in
+      let f = pair p (length a) q (length b) (measured depth p a q b e) .first in
       omega (arith, totals-most (blocksDown p), total-fits (blocksDown p) (blocksAcross p) k (omega arith) (omega arith) s)

@@ -9,7 +9,8 @@ ghost use Rattle.answer.specs.Answer.{wholeAnswer, realAnswer};
 ghost use Rattle.plane.specs.Blocks.{blockSide, blocksDown};
 ghost use Rattle.plane.specs.Planes.{sizesFault};
 ghost use Rattle.sums.specs.Sums.{sumBelow, apart};
-ghost use Rattle.importance.specs.Importance.{mean, squareSum, blocksDifference, importanceTotal, totalOf, importanceOf};
+ghost use Rattle.importance.specs.Importance.{mean, blocksDifference, importanceTotal, totalOf, importanceOf};
+ghost use Rattle.importance.specs.Needs.{squareSum};
 
 // The side of a block.
 const SIDE: usize = 8;
@@ -85,7 +86,7 @@ fn all_differences(p: Plane, a: &[u8], q: Plane, b: &[u8]) -> u64
 pub fn importance_total(depth: u64, p: Plane, a: &[u8], q: Plane, b: &[u8]) -> Whole
     ensures { λ r. ⌜ wholeAnswer r ≡ totalOf depth p (now (a .entry)) q (now (b .entry)) ⌝ }
 {
-    let fault = plane::pair_fault(depth, p, a.len(), q, b.len());
+    let fault = plane::pair_fault(depth, p, a, q, b);
     if fault != 0 {
         return Whole::Refused(fault);
     }
@@ -96,7 +97,7 @@ pub fn importance_total(depth: u64, p: Plane, a: &[u8], q: Plane, b: &[u8]) -> W
 pub fn importance(depth: u64, p: Plane, a: &[u8], q: Plane, b: &[u8]) -> Real
     ensures { λ r. ⌜ realAnswer r ≡ importanceOf depth p (now (a .entry)) q (now (b .entry)) ⌝ }
 {
-    let fault = plane::pair_fault(depth, p, a.len(), q, b.len());
+    let fault = plane::pair_fault(depth, p, a, q, b);
     if fault != 0 {
         return Real::Refused(fault);
     }

@@ -151,8 +151,8 @@ module _ (p : Plane) (n : ℕ) (w : Plane) (m room y : ℕ) where
         record { rows = λ j j<. omega (arith, e, block-in w m y x j (r .planes .second) down across j<) }
 
 -- the answer of a call that is not refused
-pub blocks-most : (depth : ℕ) (p : Plane) (n : ℕ) (w : Plane) (m room : ℕ) → intraFault depth p n w m room ≡ 0 → blockCount p ≤ maxSide * maxSide
+pub blocks-most : (depth : ℕ) (p : Plane) (s : List ℕ) (w : Plane) (work : List ℕ) (room : ℕ) → intraFault depth p s w work room ≡ 0 → blockCount p ≤ maxSide * maxSide
 unfolding intraFault
-blocks-most depth p n w m room e =
-    let f = or-none (pairFault depth p n w m) (refusal 4 (ltb room (blockCount p))) e .0 in
-    count-most p n (pair p n w m (measured depth p n w m f) .first)
+blocks-most depth p s w work room e =
+    let f = or-none (pairFault depth p s w work) (refusal 4 (ltb room (blockCount p))) e .0 in
+    count-most p (length s) (pair p (length s) w (length work) (measured depth p s w work f) .first)

@@ -76,7 +76,7 @@ module _ (start stride : ℕ) where
 
   pub rows-next : (m n k : ℕ) → inRows start stride m n k || inRun (start + m * stride) n k ≡ inRows start stride (m + 1) n k
   unfolding inRows
-  rows-next m n k = any-more m (λ (j : ℕ). inRun (start + j * stride) n k)
+  rows-next m n k = sym (any-more m (λ (j : ℕ). inRun (start + j * stride) n k))
 
   -- rows of no places, and of n places more: a block beside others
   pub blocks-none : (rows k : ℕ) → inRows start stride rows 0 k ≡ false

@@ -34,15 +34,15 @@ abbrev pub costsAfter : ℕ → Plane → List ℕ → List ℕ → List ℕ
 costsAfter flat p s costs = written (λ (k : ℕ). ltb k (blockCount p)) (costAt flat p s) costs
 
 -- 5, the plane's 1 and 2, the work plane's 1 and 2, 3, and 4: "cost list shorter than the block count"
-unfoldable pub intraFault : ℕ → Plane → ℕ → Plane → ℕ → ℕ → ℕ
-intraFault depth p n w m room = pairFault depth p n w m orElse refusal 4 (ltb room (blockCount p))
+unfoldable pub intraFault : ℕ → Plane → List ℕ → Plane → List ℕ → ℕ → ℕ
+intraFault depth p s w work room = pairFault depth p s w work orElse refusal 4 (ltb room (blockCount p))
 
 -- the answer, the number of blocks; and the lent places: where it is refused, as they were
 abbrev pub intraOf : ℕ → Plane → List ℕ → Plane → List ℕ → List ℕ → Answer ℕ
-intraOf depth p s w work costs = answered (intraFault depth p (length s) w (length work) (length costs)) (blockCount p)
+intraOf depth p s w work costs = answered (intraFault depth p s w work (length costs)) (blockCount p)
 
 abbrev pub workOf : ℕ → Plane → List ℕ → Plane → List ℕ → List ℕ → List ℕ
-workOf depth p s w work costs = lentAfter (intraFault depth p (length s) w (length work) (length costs)) (workAfter flatSample w work) work
+workOf depth p s w work costs = lentAfter (intraFault depth p s w work (length costs)) (workAfter flatSample w work) work
 
 abbrev pub costsOf : ℕ → Plane → List ℕ → Plane → List ℕ → List ℕ → List ℕ
-costsOf depth p s w work costs = lentAfter (intraFault depth p (length s) w (length work) (length costs)) (costsAfter flatSample p s costs) costs
+costsOf depth p s w work costs = lentAfter (intraFault depth p s w work (length costs)) (costsAfter flatSample p s costs) costs

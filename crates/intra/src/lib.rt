@@ -114,10 +114,10 @@ fn all_costs(p: Plane, s: &[u8], w: Plane, work: &mut [u8], costs: &mut [u32], f
 }
 
 // The refusal of intra costs, or 0: of the depth and the two planes, and 4 for a list with no room for the costs.
-fn intra_fault(depth: u64, p: Plane, n: usize, w: Plane, m: usize, room: usize) -> u32
-    ensures { λ r. ⌜ r ≡ intraFault depth p n w m room ⌝ }
+fn intra_fault(depth: u64, p: Plane, s: &[u8], w: Plane, work: &[u8], room: usize) -> u32
+    ensures { λ r. ⌜ r ≡ intraFault depth p (now (s .entry)) w (now (work .entry)) room ⌝ }
 {
-    let fault = plane::pair_fault(depth, p, n, w, m);
+    let fault = plane::pair_fault(depth, p, s, w, work);
     if fault != 0 {
         return fault;
     }
@@ -141,7 +141,7 @@ pub fn estimate_intra_costs(
     ensures { λ _. ⌜ now (work .exit) ≡ workOf depth p (now (s .entry)) w (now (work .entry)) (now (costs .entry)) ⌝ }
     ensures { λ _. ⌜ now (costs .exit) ≡ costsOf depth p (now (s .entry)) w (now (work .entry)) (now (costs .entry)) ⌝ }
 {
-    let fault = intra_fault(depth, p, s.len(), w, work.len(), costs.len());
+    let fault = intra_fault(depth, p, s, w, work, costs.len());
     if fault != 0 {
         return Whole::Refused(fault);
     }

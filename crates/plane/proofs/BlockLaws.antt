@@ -1,13 +1,14 @@
 -- Where the whole blocks of a plane lie. Assumes nothing.
 use mathlib.Core.List.{List}
-use mathlib.Core.Path.{_≡_, ap}
+use mathlib.Core.Path.{_≡_, sym, ap, _∙_}
 use Prim.Native.Nat.{ℕ, _+_, _*_, _≤_, _<_}
 use native.Mathlib.Nat.{add-mul, mul-le-mul}
 use native.Mathlib.Omega.{arith}
+use borrow.Author.Tests.{lt-ltb, le-leb}
 use lib.ListN.{getD}
 use Rattle.plane.specs.declared.Plane.{Plane}
-use Rattle.plane.specs.Blocks.{blockSide, blocksAcross, blocksDown, blockCount, blockSample, blockStart}
-use Rattle.plane.specs.Planes.{maxSide}
+use Rattle.plane.specs.Blocks.{blockSide, blocksAcross, blocksDown, blockCount, blockSample, blocksStart, blockStart, blockRow}
+use Rattle.plane.specs.Planes.{maxSide, rowEnd}
 use Rattle.plane.proofs.PlaneLaws.{Lies, row-in}
 
 -- how many there are at most, which any integer of 64 bits holds
@@ -16,6 +17,12 @@ count-most p n l =
     let down : blocksDown p ≤ maxSide = omega arith in
     let across : blocksAcross p ≤ maxSide = omega arith in
     mul-le-mul down across
+
+-- where a row of whole blocks starts, in a plane that is not refused
+pub row-starts : (p : Plane) (n y : ℕ) → Lies p n → y < blocksDown p → blockRow p n y ≡ blocksStart p y
+unfolding blockRow
+row-starts p n y l hy =
+    rw (lt-ltb y (blocksDown p) hy, le-leb (rowEnd p (y * blockSide)) n (row-in p n (y * blockSide) l (omega arith)))
 
 -- row j of a block lies within the samples
 pub block-in : (p : Plane) (n y x j : ℕ) → Lies p n → y < blocksDown p → x < blocksAcross p → j < blockSide → blockStart p y x + j * p .stride + blockSide ≤ n

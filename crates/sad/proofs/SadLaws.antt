@@ -9,7 +9,8 @@ use Rattle.plane.specs.Planes.{sampleAt, rowOf, pairFault}
 use Rattle.plane.proofs.PlaneLaws.{Lies, row-at, pair, measured, total-fits}
 use Rattle.sums.specs.Sums.{sumBelow, apart}
 use Rattle.sums.proofs.SumLaws.{sum-ext, sum-most, sum-cut}
-use Rattle.sad.specs.Difference.{gapAt, gapsFrom, rowSad, planeSad}
+use Rattle.sad.specs.Difference.{gapAt, rowSad, planeSad}
+use Rattle.sad.specs.Needs.{gapsFrom}
 
 -- a part of two rows cut in two, and chunk after chunk
 module _ (a b : List ℕ) (at : ℕ) where
@@ -40,10 +41,10 @@ module _ (k : ℕ) (a b : List ℕ) (l : (i : ℕ) → getD a i 0 ≤ k) (m : (i
       (λ x _. omega (arith, l (p .origin + y * p .stride + x), m (q .origin + y * q .stride + x))))
 
   -- two planes that are not refused
-  pub sad-most : (depth : ℕ) (p q : Plane) → k < 2 ^ 16 → pairFault depth p (length a) q (length b) ≡ 0 → planeSad p a q b < 2 ^ 42
+  pub sad-most : (depth : ℕ) (p q : Plane) → k < 2 ^ 16 → pairFault depth p a q b ≡ 0 → planeSad p a q b < 2 ^ 42
   unfolding planeSad
   sad-most depth p q s e =
-      let f = pair p (length a) q (length b) (measured depth p (length a) q (length b) e) .first in
+      let f = pair p (length a) q (length b) (measured depth p a q b e) .first in
       omega (arith, rows-most p q (p .height), total-fits (p .height) (p .width) k (f .height-most) (f .width-most) s)
 
 -- the sum of two rows that were taken out of their planes is the planes' own

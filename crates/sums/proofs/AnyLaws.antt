@@ -20,6 +20,15 @@ or-false-right : (a : Bool) → a || false ≡ a
 or-false-right true = refl
 or-false-right false = refl
 
+-- no number, and one more
+pub any-zero : (f : ℕ → Bool) → anyBelow 0 f ≡ false
+unfolding anyBelow
+any-zero f = refl
+
+pub any-more : (n : ℕ) (f : ℕ → Bool) → anyBelow (n + 1) f ≡ anyBelow n f || f n
+unfolding anyBelow
+any-more n f = rw add-one
+
 -- a test that never holds
 pub any-none : (n : ℕ) (f : ℕ → Bool) → ((i : ℕ) → f i ≡ false) → anyBelow n f ≡ false
 unfolding anyBelow
@@ -44,12 +53,3 @@ unfolding anyBelow
 any-cut m zero f = rw add-zero (sym (or-false-right (anyBelow m f)))
 any-cut m (suc n) f =
     rw add-suc (ap (λ (b : Bool). b || f (m + n)) (any-cut m n f) ∙ or-assoc (anyBelow m f) (anyBelow n (λ (i : ℕ). f (m + i))) (f (m + n)))
-
--- no number, and one more
-pub any-zero : (f : ℕ → Bool) → anyBelow 0 f ≡ false
-unfolding anyBelow
-any-zero f = refl
-
-pub any-more : (n : ℕ) (f : ℕ → Bool) → anyBelow n f || f n ≡ anyBelow (n + 1) f
-unfolding anyBelow
-any-more n f = rw add-one

@@ -22,7 +22,7 @@ whole-requires c κs =
     let w : Plane = planeBy (s .width2) (s .height2) (s .stride2) (s .origin2) in
     rw (k .estimate-intra-costs .ensures .0)
     (small-answer _ _
-    (λ e. omega (arith, blocks-most (s .depth) p (length (s .samples .now)) w (length (s .work .now)) (length (s .costs .now)) e)))
+    (λ e. omega (arith, blocks-most (s .depth) p (s .samples .now) w (s .work .now) (length (s .costs .now)) e)))
 
 same-length : tie.Need-same-length
 same-length c = search needs

@@ -10,7 +10,8 @@ use Rattle.plane.proofs.BlockLaws.{block-in}
 use Rattle.plane.proofs.PlaneLaws.{Pair, pair, row-in}
 use Rattle.sums.specs.Sums.{sumBelow, apart}
 use Rattle.sums.proofs.SumLaws.{sum-none, sum-more, sum-ext, sum-most, sum-to}
-use Rattle.importance.specs.Importance.{blockDifference, mean, squareSum}
+use Rattle.importance.specs.Importance.{blockDifference, mean}
+use Rattle.importance.specs.Needs.{squareSum}
 use Rattle.importance.proofs.BlockSums.{square-is, squares-most, means-most}
 use Rattle.importance.proofs.blocks_difference.Statement.{statement}
 use Rattle.importance.proofs.blocks_difference.Tie as tie

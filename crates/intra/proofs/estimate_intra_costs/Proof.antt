@@ -19,6 +19,9 @@ use Rattle.intra.proofs.estimate_intra_costs.Tie as tie
 intra-fault-requires : tie.Need-intra-fault-requires
 intra-fault-requires c κs = search needs
 
+same-length : tie.Need-same-length
+same-length c = search needs
+
 returns : tie.Need-returns
 returns c =
     let e = c .before .intra-fault .ensures in
@@ -26,33 +29,33 @@ returns c =
 
 -- past the test nothing is refused
 none : (c : tie.Else1)
-    → let s = c .before .before .before .before .before .args in
-    0 ≡ intraFault (s .depth) (s .p) (length (s .s .now)) (s .w) (length (s .work .now)) (length (s .costs .now))
+    → let s = c .before .before .before .before .before .before .args in
+    0 ≡ intraFault (s .depth) (s .p) (s .s .now) (s .w) (s .work .now) (length (s .costs .now))
 none c = sym (c .if1 .left) ∙ c .before .intra-fault .ensures
 
 fine : (c : tie.Else1)
-    → let s = c .before .before .before .before .before .args in
+    → let s = c .before .before .before .before .before .before .args in
     (sizesFault (s .p) (length (s .s .now)) (s .w) (length (s .work .now)) ≡ 0) × (blockCount (s .p) ≤ length (s .costs .now))
 unfolding intraFault
 fine c =
-    let s = c .before .before .before .before .before .args in
-    let t = or-none (pairFault (s .depth) (s .p) (length (s .s .now)) (s .w) (length (s .work .now))) (refusal 4 (ltb (length (s .costs .now)) (blockCount (s .p)))) (sym (none c)) in
+    let s = c .before .before .before .before .before .before .args in
+    let t = or-none (pairFault (s .depth) (s .p) (s .s .now) (s .w) (s .work .now)) (refusal 4 (ltb (length (s .costs .now)) (blockCount (s .p)))) (sym (none c)) in
     (measured _ _ _ _ _ (t .0), ltb-false _ _ (passed 3 (ltb (length (s .costs .now)) (blockCount (s .p))) (t .1)))
 
 all-costs-requires : tie.Need-all-costs-requires
 all-costs-requires c κs = fine (c .before .before)
 
-mul-t10 : tie.Need-mul-t10
-mul-t10 c =
+mul-t18 : tie.Need-mul-t18
+mul-t18 c =
     let d = c .before .before .before .before .before .before .before .before .before in
-    let p = d .before .before .before .before .before .args .p in
+    let p = d .before .before .before .before .before .before .args .p in
     record { fits = omega (arith, count-most p _ (pair _ _ _ _ (fine d .0) .first)) }
-
-same-length : tie.Need-same-length
-same-length c = search needs
 
 same-length-2 : tie.Need-same-length-2
 same-length-2 c = search needs
+
+same-length-3 : tie.Need-same-length-3
+same-length-3 c = search needs
 
 returns-2 : tie.Need-returns-2
 returns-2 c =
@@ -68,9 +71,10 @@ estimate-intra-costs-spec =
     tie.close
     (tie.spec
     intra-fault-requires
+    same-length
     returns
     all-costs-requires
-    mul-t10
-    same-length
+    mul-t18
     same-length-2
+    same-length-3
     returns-2)

@@ -21,7 +21,7 @@ returns c = or-given _ _ _ (c .before .pair-fault .ensures) (c .if1 .taken)
 mul-if2 : tie.Need-mul-if2
 mul-if2 c =
     let d = c .before .before in
-    let p = d .before .before .args .p in
+    let p = d .before .before .before .before .args .p in
     let f = pair _ _ _ _ (measured _ _ _ _ _ (sym (d .before .pair-fault .ensures) ∙ d .if1 .left)) .first in
     record { fits = omega (arith, count-most p _ f) }
 
@@ -29,14 +29,14 @@ returns-2 : tie.Need-returns-2
 unfolding intraFault
 returns-2 c =
     let d = c .before .before .before in
-    let s = d .before .before .args in
+    let s = d .before .before .before .before .args in
     or-later _ _ _ (sym (d .if1 .left) ∙ d .before .pair-fault .ensures) (rw (lt-ltb (s .room) (blockCount (s .p)) (c .if2 .taken)))
 
 returns-3 : tie.Need-returns-3
 unfolding intraFault
 returns-3 c =
     let d = c .before .before .before in
-    let s = d .before .before .args in
+    let s = d .before .before .before .before .args in
     or-later _ _ _ (sym (d .if1 .left) ∙ d .before .pair-fault .ensures) (rw (le-ltb (s .room) (blockCount (s .p)) (c .if2 .left)))
 
 pub intra-fault-spec : {M : Type 1} → statement M

@@ -4,7 +4,8 @@ use Prim.Native.Nat.{ℕ, _+_, _*_, _≤_, _-_}
 use native.Mathlib.Omega.{arith}
 use borrow.Author.Needs.{needs}
 use Rattle.sums.proofs.SumLaws.{sum-none, sum-more, sum-to}
-use Rattle.sad.specs.Difference.{gapAt, gapsFrom}
+use Rattle.sad.specs.Difference.{gapAt}
+use Rattle.sad.specs.Needs.{gapsFrom}
 use Rattle.sad.proofs.SadLaws.{gaps-most}
 use Rattle.sad.proofs.chunk_sad.Statement.{statement}
 use Rattle.sad.proofs.chunk_sad.Tie as tie

@@ -7,7 +7,7 @@ use native.Mathlib.Omega.{arith}
 use borrow.Author.Needs.{needs}
 use lib.ListN.{length}
 use Rattle.sums.proofs.SumLaws.{sum-none, sum-to}
-use Rattle.sad.specs.Difference.{gapsFrom}
+use Rattle.sad.specs.Needs.{gapsFrom}
 use Rattle.sad.proofs.SadLaws.{gaps-most, chunk-more}
 use Rattle.sad.proofs.chunks_sad.Statement.{statement}
 use Rattle.sad.proofs.chunks_sad.Tie as tie
