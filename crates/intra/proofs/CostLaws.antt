@@ -15,10 +15,10 @@ use Rattle.answer.specs.Refusal.{refusal}
 use Rattle.answer.proofs.Laws.{or-none}
 use Rattle.answer.specs.declared.Whole.{Whole}
 use Rattle.answer.specs.declared.Whole.the-variants as whole
-use Rattle.plane.specs.Blocks.{blockSide, blocksAcross, blocksDown, blockCount, blockSample, blockStart}
+use Rattle.plane.specs.Blocks.{blockSide, blocksAcross, blocksDown, blockCount, blockSample, blocksStart, blockStart, blockRow}
 use Rattle.plane.specs.Planes.{maxSide, sizesFault, pairFault}
 use Rattle.plane.specs.declared.Plane.{Plane}
-use Rattle.plane.proofs.BlockLaws.{block-in, block-place, count-most}
+use Rattle.plane.proofs.BlockLaws.{block-in, block-place, count-most, row-starts}
 use Rattle.plane.proofs.PlaneLaws.{Pair, pair, measured, row-in}
 use Rattle.satd.specs.Satd.{blockSize, satdOf}
 use Rattle.satd.proofs.SatdLaws.{satd-given, satd-most}
@@ -97,8 +97,7 @@ turn-cost flat s start stride first x n e = let back : first + x - first ≡ x =
 
 module _ (flat : ℕ) (p : Plane) (s : List ℕ) (y : ℕ) where
   -- the row's costs are those that stand there in row order
-  row-costs : (k : ℕ) → inRun (y * blocksAcross p) (blocksAcross p) k ≡ true
-      → costFrom flat s (p .origin + y * blockSide * p .stride) (p .stride) (y * blocksAcross p) k ≡ costAt flat p s k
+  row-costs : (k : ℕ) → inRun (y * blocksAcross p) (blocksAcross p) k ≡ true → costFrom flat s (blocksStart p y) (p .stride) (y * blocksAcross p) k ≡ costAt flat p s k
   row-costs k e =
       let h = run-holds (y * blocksAcross p) (blocksAcross p) k e in
       let x = k - y * blocksAcross p in
@@ -111,40 +110,47 @@ module _ (flat : ℕ) (p : Plane) (s : List ℕ) (y : ℕ) where
       (λ t. block-place p s y x (t / 8) (t % 8)) in
       rw (row, column, block)
 
-  pub row-done : (x : ℕ) (old new : List ℕ)
-      → Wrote (inRun (y * blocksAcross p) x) (costFrom flat s (p .origin + y * blockSide * p .stride) (p .stride) (y * blocksAcross p)) old new
-      → x ≡ blocksAcross p → new ≡ written (inRun (y * blocksAcross p) (blocksAcross p)) (costAt flat p s) old
-  row-done x old new w e =
+  pub row-done : (start x : ℕ) (old new : List ℕ) → start ≡ blocksStart p y
+      → Wrote (inRun (y * blocksAcross p) x) (costFrom flat s start (p .stride) (y * blocksAcross p)) old new → x ≡ blocksAcross p
+      → new ≡ written (inRun (y * blocksAcross p) (blocksAcross p)) (costAt flat p s) old
+  row-done start x old new d w e =
       wrote-all (inRun (y * blocksAcross p)) x (blocksAcross p) w e
-      ∙ written-value (inRun (y * blocksAcross p) (blocksAcross p)) (costFrom flat s (p .origin + y * blockSide * p .stride) (p .stride) (y * blocksAcross p)) (costAt flat p s) old row-costs
+      ∙ rw d
+      (written-value (inRun (y * blocksAcross p) (blocksAcross p)) (costFrom flat s (blocksStart p y) (p .stride) (y * blocksAcross p)) (costAt flat p s) old row-costs)
 
 -- ---- what a row of blocks of two planes that are not refused keeps to
 
-pub record RowIn (p : Plane) (n : ℕ) (w : Plane) (m room y : ℕ) : Type 0 where
+pub record RowIn (p : Plane) (n : ℕ) (w : Plane) (m room y start start2 : ℕ) : Type 0 where
   pub planes : Pair p n w m
   pub down : y < blocksDown p
-  pub first : p .origin + y * blockSide * p .stride + p .width ≤ n
-  pub second : w .origin + y * blockSide * w .stride + w .width ≤ m
+  pub start-is : start ≡ blocksStart p y
+  pub start2-is : start2 ≡ blocksStart w y
+  pub first : start + p .width ≤ n
+  pub second : start2 + w .width ≤ m
   pub costs : y * blocksAcross p + blocksAcross p ≤ room
 
-module _ (p : Plane) (n : ℕ) (w : Plane) (m room y : ℕ) where
-  pub row-lies : sizesFault p n w m ≡ 0 → blockCount p ≤ room → y < blocksDown p → RowIn p n w m room y
-  row-lies e r d =
+module _ (p : Plane) (n : ℕ) (w : Plane) (m room y start start2 : ℕ) where
+  pub row-lies : sizesFault p n w m ≡ 0 → blockCount p ≤ room → y < blocksDown p → start ≡ blockRow p n y → start2 ≡ blockRow w m y → RowIn p n w m room y start start2
+  row-lies e r d f g =
       let h = pair p n w m e in
+      let a : start ≡ blocksStart p y = f ∙ row-starts p n y (h .first) d in
+      let b : start2 ≡ blocksStart w y = g ∙ row-starts w m y (h .second) (omega arith) in
       record {
         planes = h;
         down = d;
-        first = row-in p n (y * blockSide) (h .first) (omega arith);
-        second = row-in w m (y * blockSide) (h .second) (omega arith);
+        start-is = a;
+        start2-is = b;
+        first = omega (arith, row-in p n (y * blockSide) (h .first) (omega arith));
+        second = omega (arith, row-in w m (y * blockSide) (h .second) (omega arith));
         costs = omega (arith, mul-le-mul-right (blocksAcross p) d, suc-mul y (blocksAcross p));
       }
 
-  module _ (r : RowIn p n w m room y) (x : ℕ) (h : x < blocksAcross p) where
-    pub block-lies : SquareIn (p .origin + y * blockSide * p .stride + x * blockSide) (p .stride) n
-    block-lies = record { rows = λ j j<. block-in p n y x j (r .planes .first) (r .down) h j< }
+  -- block x lies within the samples of both; those of the work plane a loop has written
+  module _ (r : RowIn p n w m room y start start2) (x : ℕ) (h : x < blocksAcross p) where
+    pub block-lies : SquareIn (start + x * blockSide) (p .stride) n
+    block-lies = record { rows = λ j j<. omega (arith, block-in p n y x j (r .planes .first) (r .down) h j<) }
 
-    -- of the work plane, whose samples a loop has written
-    pub work-lies : (now : ℕ) → now ≡ m → SquareIn (w .origin + y * blockSide * w .stride + x * blockSide) (w .stride) now
+    pub work-lies : (now : ℕ) → now ≡ m → SquareIn (start2 + x * blockSide) (w .stride) now
     work-lies now e =
         let down : y < blocksDown w = omega arith in
         let across : x < blocksAcross w = omega arith in

@@ -1,12 +1,13 @@
 // Intra costs: `estimate_intra_costs` of analyze/intra.rs, with the flat prediction of intra/rust.rs.
 use answer::Whole;
+use plane::BLOCK_SIDE;
 use plane::Plane;
 ghost use mathlib.Core.Path.{_≡_};
 ghost use Prim.Native.Nat.{ℕ, _+_, _*_, _≤_, _<_};
 ghost use lib.Dec.{ltb};
 ghost use lib.ListN.{length, getD};
 ghost use Rattle.answer.specs.Answer.{wholeAnswer};
-ghost use Rattle.plane.specs.Blocks.{blockSide, blocksAcross, blocksDown, blockCount};
+ghost use Rattle.plane.specs.Blocks.{blockSide, blocksAcross, blocksDown, blockCount, blocksStart};
 ghost use Rattle.plane.specs.Planes.{sizesFault};
 ghost use Rattle.satd.specs.Satd.{blockSize};
 ghost use Rattle.sums.specs.Written.{written};
@@ -16,9 +17,7 @@ ghost use Rattle.intra.specs.Needs.{SquareIn, squareOf, squareCost};
 
 pub mod standard;
 
-// The side of a block, and the flat prediction of samples of 8 bits.
-const SIDE: usize = 8;
-
+// The flat prediction of samples of 8 bits.
 const FLAT: u8 = 128;
 
 // Eight flat samples from the start of a part on.
@@ -26,7 +25,7 @@ fn fill_row(part: &mut [u8], flat: u8)
     requires { ⌜ blockSide ≤ length (now part) ⌝ }
     ensures { λ _. ⌜ now (part .exit) ≡ written (λ (k : ℕ). ltb k blockSide) (λ (k : ℕ). flat) (now (part .entry)) ⌝ }
 {
-    for x in 0..SIDE {
+    for x in 0..BLOCK_SIDE {
         part[x] = flat;
     }
 }
@@ -37,7 +36,7 @@ fn fill_block(work: &mut [u8], start: usize, stride: usize, flat: u8)
     requires { ⌜ SquareIn start stride (length (now work)) ⌝ }
     ensures { λ _. ⌜ now (work .exit) ≡ filled flat start stride blockSide blockSide (now (work .entry)) ⌝ }
 {
-    for y in 0..SIDE {
+    for y in 0..BLOCK_SIDE {
         let i = start + y * stride;
         fill_row(&mut work[i..], flat);
     }
@@ -49,7 +48,7 @@ fn copy_row(to: &mut [u8], from: &[u8])
     requires { ⌜ blockSide ≤ length (now from) ⌝ }
     ensures { λ _. ⌜ now (to .exit) ≡ written (λ (k : ℕ). ltb k blockSide) (λ (k : ℕ). getD (now (from .entry)) k 0) (now (to .entry)) ⌝ }
 {
-    for x in 0..SIDE {
+    for x in 0..BLOCK_SIDE {
         to[x] = from[x];
     }
 }
@@ -60,8 +59,8 @@ fn load_block(block: &mut [u8], s: &[u8], start: usize, stride: usize)
     requires { ⌜ SquareIn start stride (length (now s)) ⌝ }
     ensures { λ _. ⌜ now (block .exit) ≡ squareOf (now (s .entry)) start stride ⌝ }
 {
-    for j in 0..SIDE {
-        let at = j * SIDE;
+    for j in 0..BLOCK_SIDE {
+        let at = j * BLOCK_SIDE;
         let i = start + j * stride;
         copy_row(&mut block[at..], &s[i..]);
     }
@@ -86,18 +85,18 @@ fn costs_row(p: Plane, s: &[u8], w: Plane, work: &mut [u8], costs: &mut [u32], y
     requires { ⌜ sizesFault p (length (now s)) w (length (now work)) ≡ 0 ⌝ }
     requires { ⌜ blockCount p ≤ length (now costs) ⌝ }
     requires { ⌜ y < blocksDown p ⌝ }
-    ensures { λ _. ⌜ now (work .exit) ≡ filled flat (w .origin + y * blockSide * w .stride) (w .stride) blockSide (blocksAcross w * blockSide) (now (work .entry)) ⌝ }
+    ensures { λ _. ⌜ now (work .exit) ≡ filled flat (blocksStart w y) (w .stride) blockSide (blocksAcross w * blockSide) (now (work .entry)) ⌝ }
     ensures { λ _. ⌜ now (costs .exit) ≡ written (inRun (y * blocksAcross p) (blocksAcross p)) (costAt flat p (now (s .entry))) (now (costs .entry)) ⌝ }
 {
     let stride = p.stride;
     let stride2 = w.stride;
-    let across = p.width / SIDE;
-    let start = p.origin + y * SIDE * stride;
-    let start2 = w.origin + y * SIDE * stride2;
+    let across = p.width / BLOCK_SIDE;
+    let start = p.block_row(s.len(), y);
+    let start2 = w.block_row(work.len(), y);
     let first = y * across;
     for x in 0..across {
-        fill_block(work, start2 + x * SIDE, stride2, flat);
-        costs[first + x] = block_cost(s, start + x * SIDE, stride, flat);
+        fill_block(work, start2 + x * BLOCK_SIDE, stride2, flat);
+        costs[first + x] = block_cost(s, start + x * BLOCK_SIDE, stride, flat);
     }
 }
 
@@ -108,7 +107,7 @@ fn all_costs(p: Plane, s: &[u8], w: Plane, work: &mut [u8], costs: &mut [u32], f
     ensures { λ _. ⌜ now (work .exit) ≡ workAfter flat w (now (work .entry)) ⌝ }
     ensures { λ _. ⌜ now (costs .exit) ≡ costsAfter flat p (now (s .entry)) (now (costs .entry)) ⌝ }
 {
-    for y in 0..p.height / SIDE {
+    for y in 0..p.height / BLOCK_SIDE {
         costs_row(p, s, w, work, costs, y, flat);
     }
 }
@@ -121,7 +120,7 @@ fn intra_fault(depth: u64, p: Plane, s: &[u8], w: Plane, work: &[u8], room: usiz
     if fault != 0 {
         return fault;
     }
-    if room < (p.height / SIDE) * (p.width / SIDE) {
+    if room < (p.height / BLOCK_SIDE) * (p.width / BLOCK_SIDE) {
         return 4;
     }
     0
@@ -146,5 +145,5 @@ pub fn estimate_intra_costs(
         return Whole::Refused(fault);
     }
     all_costs(p, s, w, work, costs, FLAT);
-    Whole::Number(((p.height / SIDE) * (p.width / SIDE)) as u64)
+    Whole::Number(((p.height / BLOCK_SIDE) * (p.width / BLOCK_SIDE)) as u64)
 }
