@@ -6,13 +6,14 @@ use Prim.Native.Nat.{ℕ, _+_, _-_, _*_, _/_, _%_, _≤_, _<_}
 use native.Mathlib.Decide.{decLt}
 use native.Mathlib.Nat.{mul-le-mul-right, suc-mul}
 use native.Mathlib.Omega.{arith}
+use borrow.Author.Tests.{lt-ltb, le-ltb, ltb-false}
 use lib.Arith.{digits-div, digits-mod}
 use lib.Dec.{ltb}
 use lib.ListN.{length, getD, take, drop, replicate, getD-replicate, List·getD-eq-default}
 use lib.Seq.{getD-take, getD-drop}
 use Rattle.answer.specs.Answer.{gives, refused, wholeAnswer}
 use Rattle.answer.specs.Refusal.{refusal}
-use Rattle.answer.proofs.Laws.{or-none}
+use Rattle.answer.proofs.Laws.{or-given, or-later, or-none, passed, test-given, test-passed}
 use Rattle.answer.specs.declared.Whole.{Whole}
 use Rattle.answer.specs.declared.Whole.the-variants as whole
 use Rattle.plane.specs.Blocks.{blockSide, blocksAcross, blocksDown, blockCount, blockSample, blocksStart, blockStart, blockRow}
@@ -156,9 +157,30 @@ module _ (p : Plane) (n : ℕ) (w : Plane) (m room y start start2 : ℕ) where
         let across : x < blocksAcross w = omega arith in
         record { rows = λ j j<. omega (arith, e, block-in w m y x j (r .planes .second) down across j<) }
 
--- the answer of a call that is not refused
-pub blocks-most : (depth : ℕ) (p : Plane) (s : List ℕ) (w : Plane) (work : List ℕ) (room : ℕ) → intraFault depth p s w work room ≡ 0 → blockCount p ≤ maxSide * maxSide
-unfolding intraFault
-blocks-most depth p s w work room e =
-    let f = or-none (pairFault depth p s w work) (refusal 4 (ltb room (blockCount p))) e .0 in
-    count-most p (length s) (pair p (length s) w (length work) (measured depth p s w work f) .first)
+-- ---- the refusals in order, and what a call that is not refused keeps to
+
+module _ (depth : ℕ) (p : Plane) (s : List ℕ) (w : Plane) (work : List ℕ) (room : ℕ) where
+  pub planes-refused : (r : ℕ) → r ≡ pairFault depth p s w work → (r ≡ 0 → ⊥) → r ≡ intraFault depth p s w work room
+  unfolding intraFault
+  planes-refused r e h = or-given r _ _ e h
+
+  pub no-room : 0 ≡ pairFault depth p s w work → room < blockCount p → 4 ≡ intraFault depth p s w work room
+  unfolding intraFault
+  no-room e h = or-later 4 _ _ e (test-given 4 _ (lt-ltb room (blockCount p) h))
+
+  pub room-enough : 0 ≡ pairFault depth p s w work → blockCount p ≤ room → 0 ≡ intraFault depth p s w work room
+  unfolding intraFault
+  room-enough e h = or-later 0 _ _ e (test-passed 4 _ (le-ltb room (blockCount p) h))
+
+  pub fine : intraFault depth p s w work room ≡ 0 → (sizesFault p (length s) w (length work) ≡ 0) × (blockCount p ≤ room)
+  unfolding intraFault
+  fine e =
+      let t = or-none (pairFault depth p s w work) (refusal 4 (ltb room (blockCount p))) e in
+      (measured depth p s w work (t .0), ltb-false room (blockCount p) (passed 3 (ltb room (blockCount p)) (t .1)))
+
+  -- the block count of planes that are not refused, and so the answer
+  pub count-fits : pairFault depth p s w work ≡ 0 → blockCount p ≤ maxSide * maxSide
+  count-fits e = count-most p (length s) (pair p (length s) w (length work) (measured depth p s w work e) .first)
+
+  pub blocks-most : intraFault depth p s w work room ≡ 0 → blockCount p ≤ maxSide * maxSide
+  blocks-most e = count-most p (length s) (pair p (length s) w (length work) (fine e .0) .first)

@@ -1,17 +1,13 @@
 -- `intra::block_cost` meets its contract: both blocks have their 64 samples, so that the SATD is not refused, and it fits a u32. Assumes nothing.
 use mathlib.Core.Path.{_≡_}
-use Prim.Native.Nat.{ℕ}
 use native.Mathlib.Omega.{arith}
 use borrow.Author.Needs.{needs}
+use Rattle.sums.specs.Needs.{byteMost}
 use Rattle.answer.specs.Answer.{gives, wholeAnswer}
 use Rattle.intra.specs.Needs.{squareCost}
 use Rattle.intra.proofs.CostLaws.{cost-given, number-given, never-refused, cost-most}
 use Rattle.intra.proofs.block_cost.Statement.{statement}
 use Rattle.intra.proofs.block_cost.Tie as tie
-
--- the largest sample of 8 bits
-abbrev most : ℕ
-most = 255
 
 slice-aggregate-load-block : tie.Need-slice-aggregate-load-block
 slice-aggregate-load-block c = search needs
@@ -53,7 +49,7 @@ cast-result c =
     record {
       fits =
           omega
-          (arith, number-given (c .before .before .before .satd8x8 .result) (answer (c .before .before .before)) _ (c .before .cost .given .1), cost-most most (s .flat) (s .start) (s .stride) (s .s .now) (omega arith) (λ i. omega (arith, k .shared-slice-known .given i)));
+          (arith, number-given (c .before .before .before .satd8x8 .result) (answer (c .before .before .before)) _ (c .before .cost .given .1), cost-most byteMost (s .flat) (s .start) (s .stride) (s .s .now) (omega arith) (λ i. omega (arith, k .shared-slice-known .given i)));
     }
 
 returns-2 : tie.Need-returns-2

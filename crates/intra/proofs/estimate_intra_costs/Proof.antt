@@ -1,18 +1,11 @@
 -- `intra::estimate_intra_costs` meets its contract: a refusal leaves both lent places as they were, and else all blocks are filled and priced. Assumes nothing.
 use mathlib.Core.Path.{_≡_, refl, sym, _∙_}
-use Prim.Native.Nat.{_≤_}
 use native.Mathlib.Omega.{arith}
 use borrow.Author.Needs.{needs}
-use borrow.Author.Tests.{ltb-false}
-use lib.Dec.{ltb}
 use lib.ListN.{length}
-use Rattle.answer.specs.Refusal.{refusal}
-use Rattle.answer.proofs.Laws.{or-none, passed, answer-given, answer-refused, lent-written, lent-kept}
-use Rattle.plane.specs.Blocks.{blockCount}
-use Rattle.plane.specs.Planes.{pairFault, sizesFault}
-use Rattle.plane.proofs.BlockLaws.{count-most}
-use Rattle.plane.proofs.PlaneLaws.{measured, pair}
+use Rattle.answer.proofs.Laws.{answer-given, answer-refused, lent-written, lent-kept}
 use Rattle.intra.specs.Costs.{intraFault}
+use Rattle.intra.proofs.CostLaws.{fine, blocks-most}
 use Rattle.intra.proofs.estimate_intra_costs.Statement.{statement}
 use Rattle.intra.proofs.estimate_intra_costs.Tie as tie
 
@@ -33,23 +26,14 @@ none : (c : tie.Else1)
     0 ≡ intraFault (s .depth) (s .p) (s .s .now) (s .w) (s .work .now) (length (s .costs .now))
 none c = sym (c .if1 .left) ∙ c .before .intra-fault .ensures
 
-fine : (c : tie.Else1)
-    → let s = c .before .before .before .before .before .before .args in
-    (sizesFault (s .p) (length (s .s .now)) (s .w) (length (s .work .now)) ≡ 0) × (blockCount (s .p) ≤ length (s .costs .now))
-unfolding intraFault
-fine c =
-    let s = c .before .before .before .before .before .before .args in
-    let t = or-none (pairFault (s .depth) (s .p) (s .s .now) (s .w) (s .work .now)) (refusal 4 (ltb (length (s .costs .now)) (blockCount (s .p)))) (sym (none c)) in
-    (measured _ _ _ _ _ (t .0), ltb-false _ _ (passed 3 (ltb (length (s .costs .now)) (blockCount (s .p))) (t .1)))
-
 all-costs-requires : tie.Need-all-costs-requires
-all-costs-requires c κs = fine (c .before .before)
+all-costs-requires c κs = fine _ _ _ _ _ _ (sym (none (c .before .before)))
 
 mul-t18 : tie.Need-mul-t18
 mul-t18 c =
     let d = c .before .before .before .before .before .before .before .before .before in
-    let p = d .before .before .before .before .before .before .args .p in
-    record { fits = omega (arith, count-most p _ (pair _ _ _ _ (fine d .0) .first)) }
+    let s = d .before .before .before .before .before .before .args in
+    omega (arith, blocks-most (s .depth) (s .p) (s .s .now) (s .w) (s .work .now) (length (s .costs .now)) (sym (none d)))
 
 same-length-2 : tie.Need-same-length-2
 same-length-2 c = search needs

@@ -1,15 +1,11 @@
 -- `satd::satd8x8` meets its contract: differences of samples are within the transform's range, so that it is not refused, and the sum of its
 -- entries fits. Assumes nothing.
-use Prim.Native.Nat.{ℕ}
 use native.Mathlib.Omega.{arith}
 use borrow.Author.Needs.{needs}
+use Rattle.sums.specs.Needs.{byteMost}
 use Rattle.satd.proofs.SatdLaws.{first-refused, second-refused, Left, left, left-satd}
 use Rattle.satd.proofs.satd8x8.Statement.{statement}
 use Rattle.satd.proofs.satd8x8.Tie as tie
-
--- the largest sample of 8 bits
-abbrev most : ℕ
-most = 255
 
 returns : tie.Need-returns
 returns c = let s = c .before .before .before .args in first-refused (s .first .now) (s .second .now) (c .if1 .taken)
@@ -38,7 +34,7 @@ entry c = c .before .before .before .before .before .before .before
 
 changed : (c : tie.After-hadamard8x8) → let s = entry c .before .before .args in Left (s .first .now) (s .second .now) (c .hadamard8x8 .last .0)
 changed c =
-    left most _ _ (λ i. omega (arith, entry c .before .shared-slice-known .given i)) (λ i. omega (arith, entry c .shared-slice-known2 .given i))
+    left byteMost _ _ (λ i. omega (arith, entry c .before .shared-slice-known .given i)) (λ i. omega (arith, entry c .shared-slice-known2 .given i))
     (omega arith) _ _ (c .before .before .before .subtract .ensures) (c .hadamard8x8 .ensures .1)
 
 total-requires : tie.Need-total-requires
