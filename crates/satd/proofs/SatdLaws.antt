@@ -1,6 +1,6 @@
 -- The SATD's numbers over the largest sample k: no difference is out of the transform's range where k is at most 65,535, and the SATD is at
 -- most 512 times k. So a u32 holds it, and the sum before the division, for samples of 8 and of 16 bits. Assumes nothing.
-use mathlib.Core.Path.{_≡_, refl, sym, ap, _∙_}
+use mathlib.Core.Path.{_≡_, refl, ap, _∙_}
 use mathlib.Core.List.{List}
 use Prim.Native.Nat.{ℕ, _+_, _*_, _/_, _≤_, _<_}
 use native.Mathlib.Decide.{decLt}

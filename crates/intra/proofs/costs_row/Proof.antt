@@ -1,5 +1,5 @@
 -- `intra::costs_row` meets its contract. After x turns the first x blocks of the row are filled, and their costs stand in their places. Assumes nothing.
-use mathlib.Core.Path.{_≡_, ap, _∙_}
+use mathlib.Core.Path.{ap, _∙_}
 use Prim.Native.Nat.{ℕ, _*_, _^_, _≤_, _<_, _-_}
 use native.Mathlib.Omega.{arith}
 use borrow.Author.Needs.{needs}
