@@ -29,6 +29,11 @@ pub block-in : (p : Plane) (n y x j : ℕ) → Lies p n → y < blocksDown p →
 block-in p n y x j l hy hx hj =
     omega (arith, row-in p n (y * blockSide + j) l (omega arith), add-mul (y * blockSide) j (p .stride))
 
+-- the same from where the row of blocks was found to start
+pub block-from : (p : Plane) (n y start : ℕ) → Lies p n → y < blocksDown p → start ≡ blockRow p n y
+    → (x : ℕ) → x < blocksAcross p → (j : ℕ) → j < blockSide → start + x * blockSide + j * p .stride + blockSide ≤ n
+block-from p n y start l hy e x hx j hj = omega (arith, row-starts p n y l hy, block-in p n y x j l hy hx hj)
+
 -- a sample of a block, by its place
 pub block-place : (p : Plane) (s : List ℕ) (y x j i : ℕ) → blockSample p s y x j i ≡ getD s (blockStart p y x + j * p .stride + i) 0
 block-place p s y x j i =

@@ -7,6 +7,7 @@ ghost use Prim.Native.Nat.{_+_, _*_, _^_, _≤_, _<_};
 ghost use lib.ListN.{length};
 ghost use Rattle.answer.specs.Answer.{wholeAnswer, realAnswer};
 ghost use Rattle.plane.specs.Planes.{maxSide, sizesFault};
+ghost use Rattle.sums.specs.Needs.{byteMost};
 ghost use Rattle.sums.specs.Sums.{sumBelow};
 ghost use Rattle.sad.specs.Difference.{gapAt, planeSad, differenceOf, deltaOf};
 ghost use Rattle.sad.specs.Needs.{gapsFrom, Reach};
@@ -20,7 +21,7 @@ const SMALL_CHUNK: usize = 8;
 // in one vector instruction; a sum of 16 bits spares it the widening of every distance.
 fn chunk_sad(a: &[u8], b: &[u8], at: usize, n: usize) -> u16
     requires { ⌜ Reach (now a) (now b) (at + n) ⌝ }
-    requires { ⌜ n * 255 < 2 ^ 16 ⌝ }
+    requires { ⌜ n * byteMost < 2 ^ 16 ⌝ }
     ensures { λ r. ⌜ r ≡ gapsFrom (now (a .entry)) (now (b .entry)) at n ⌝ }
 {
     let mut sum: u16 = 0;
@@ -33,7 +34,7 @@ fn chunk_sad(a: &[u8], b: &[u8], at: usize, n: usize) -> u16
 // The sum over a number of chunks of n samples each, from a place on.
 fn chunks_sad(a: &[u8], b: &[u8], from: usize, chunks: usize, n: usize) -> u32
     requires { ⌜ Reach (now a) (now b) (from + chunks * n) ⌝ }
-    requires { ⌜ n * 255 < 2 ^ 16 ⌝ }
+    requires { ⌜ n * byteMost < 2 ^ 16 ⌝ }
     requires { ⌜ length (now a) ≤ maxSide ⌝ }
     ensures { λ r. ⌜ r ≡ gapsFrom (now (a .entry)) (now (b .entry)) from (chunks * n) ⌝ }
 {
