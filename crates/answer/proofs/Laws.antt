@@ -37,6 +37,20 @@ pub passed : (k : ℕ) (test : Bool) → refusal (suc k) test ≡ 0 → test ≡
 passed k true e = absurd (suc-ne-zero k e)
 passed k false e = refl
 
+-- a refusal by its test: where it holds the refusal speaks, before all later ones
+pub test-given : (k : ℕ) (test : Bool) → test ≡ true → k ≡ refusal k test
+test-given k test e = rw e
+
+pub test-first : (k g : ℕ) (test : Bool) → test ≡ true → suc k ≡ refusal (suc k) test orElse g
+test-first k g test e = or-given (suc k) (refusal (suc k) test) g (test-given (suc k) test e) (suc-ne-zero k)
+
+-- and where it fails the refusal is none, and the later ones speak
+pub test-passed : (k : ℕ) (test : Bool) → test ≡ false → 0 ≡ refusal k test
+test-passed k test e = rw e
+
+pub test-later : (k r g : ℕ) (test : Bool) → test ≡ false → r ≡ g → r ≡ refusal k test orElse g
+test-later k r g test e d = or-later r (refusal k test) g (test-passed k test e) d
+
 -- an answer from its refusal's number: none, or one
 pub answer-given : {A : Type 0} (fault : ℕ) (a b : A) → 0 ≡ fault → b ≡ a → gives b ≡ answered fault a
 unfolding answered
@@ -54,6 +68,15 @@ lent-written fault new old e = rw (← e)
 pub lent-kept : {A : Type 0} (r fault : ℕ) (new old : A) → r ≡ fault → (r ≡ 0 → ⊥) → old ≡ lentAfter fault new old
 unfolding lentAfter
 lent-kept r fault new old e h = rw (← e, ne-eqb r 0 h)
+
+-- what holds of both cases holds of an answer
+pub answer-cases : {A : Type 0} (P : Answer A → Type 0) (fault : ℕ) (a : A) → (fault ≡ 0 → P (gives a)) → ((fault ≡ 0 → ⊥) → P (refused fault)) → P (answered fault a)
+unfolding answered
+answer-cases P fault a f g = by-case (eqb fault 0) (λ t. f (eqb-true fault 0 t)) (λ t. g (eqb-false fault 0 t))
+  where
+    by-case : (t : Bool) → (t ≡ true → P (gives a)) → (t ≡ false → P (refused fault)) → P (cond t (gives a) (refused fault))
+    by-case true f g = f refl
+    by-case false f g = g refl
 
 -- two values that agree where nothing is refused make one answer
 pub answer-same : {A : Type 0} (fault : ℕ) (a b : A) → (fault ≡ 0 → a ≡ b) → answered fault a ≡ answered fault b

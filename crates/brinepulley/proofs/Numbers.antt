@@ -1,17 +1,17 @@
 -- What an i64 is made of: a number below 2 ^ 63 reads back as itself, and a refusal's number negated. Assumes nothing.
 use mathlib.Core.Path.{_≡_, refl, sym, ap, subst, _∙_}
-use mathlib.Core.Bool.{Bool, true, false, cond}
 use Prim.Native.Nat.{ℕ, zero, suc, _<_, _^_}
 use native.Mathlib.Omega.{arith}
-use borrow.Author.Tests.{lt-ltb, eqb-true}
-use lib.Dec.{eqb}
+use borrow.Author.Tests.{lt-ltb}
 use lib.IntN.{ℤ, pos, negℤ, _-ℤ_, +ℤ-idl}
 use lib.Signed.{mag}
 use mir.Syntax.{w64}
 use mir.Val.{SFits, toZ, ofZ}
 use mir.Facts.{toZ-ofZ}
-use Rattle.answer.specs.Answer.{Answer, gives, refused, answered}
-use Rattle.brinepulley.specs.Coded.{coded, done, Small}
+use Rattle.answer.specs.Answer.{Answer, gives, answered}
+use Rattle.answer.proofs.Laws.{answer-cases}
+use Rattle.brinepulley.specs.Coded.{coded, done}
+use Rattle.brinepulley.specs.Needs.{Codable}
 
 read-small : (n : ℕ) → n < 2 ^ 63 → toZ w64 n ≡ pos n
 read-small n h = rw (lt-ltb n (2 ^ 63) h)
@@ -29,28 +29,19 @@ neg-fits n h = subst (SFits w64) (sym (neg-is n h)) (record { sfits = mag-neg n 
 pub neg-back : (n : ℕ) → n < 2 ^ 32 → toZ w64 (ofZ w64 (pos 0 -ℤ toZ w64 n)) ≡ negℤ (pos n)
 neg-back n h = toZ-ofZ (neg-fits n h) ∙ neg-is n h
 
--- an answer is small where its number is
-pub small-answer : (fault n : ℕ) → (fault ≡ 0 → n < 2 ^ 63) → Small (answered fault n)
-unfolding answered
-small-answer fault n h = by-case (eqb fault 0) (λ e. h (eqb-true fault 0 e))
-  where
-    by-case : (t : Bool) → (t ≡ true → n < 2 ^ 63) → Small (cond t (gives n) (refused fault))
-    by-case true h = h refl
-    by-case false h = tt
+-- an answer can be coded where its number can
+pub codable-answer : (fault n : ℕ) → (fault ≡ 0 → n < 2 ^ 63) → Codable (answered fault n)
+codable-answer fault n h = answer-cases Codable fault n h (λ _. tt)
 
 -- a number of an answer that is given
 module _ (a : Answer ℕ) (n : ℕ) where
-  pub given-small : a ≡ gives n → Small a → n < 2 ^ 63
-  given-small e s = subst Small e s
+  pub given-fits : a ≡ gives n → Codable a → n < 2 ^ 63
+  given-fits e s = subst Codable e s
 
-  pub given-coded : a ≡ gives n → Small a → toZ w64 n ≡ coded a
-  given-coded e s = read-small n (given-small e s) ∙ ap coded (sym e)
+  pub given-coded : a ≡ gives n → Codable a → toZ w64 n ≡ coded a
+  given-coded e s = read-small n (given-fits e s) ∙ ap coded (sym e)
 
 -- 0 where nothing is refused, else the refusal negated: either is the number negated
 pub done-coded : (fault : ℕ) → negℤ (pos fault) ≡ coded (done fault)
-unfolding answered
-done-coded fault = by-case (eqb fault 0) (eqb-true fault 0)
-  where
-    by-case : (t : Bool) → (t ≡ true → fault ≡ 0) → negℤ (pos fault) ≡ coded (cond t (gives 0) (refused fault))
-    by-case true e = ap (λ (n : ℕ). negℤ (pos n)) (e refl)
-    by-case false e = refl
+done-coded fault =
+    answer-cases (λ (a : Answer ℕ). negℤ (pos fault) ≡ coded a) fault 0 (λ e. ap (λ (n : ℕ). negℤ (pos n)) e) (λ _. refl)

@@ -1,7 +1,7 @@
 -- Document 01, "Refusal numbers": what a C function returns. "each gives a whole number .., or the refusal number negated."
 use mathlib.Core.Bool.{Bool, cond}
 use mathlib.Core.Option.{Option, none, some}
-use Prim.Native.Nat.{ℕ, _<_, _^_}
+use Prim.Native.Nat.{ℕ}
 use lib.IntN.{ℤ, pos, negℤ}
 use lib.Ieee.{Float}
 use Rattle.answer.specs.Answer.{Answer, gives, refused, answered}
@@ -39,8 +39,3 @@ decided (refused f) = refused f
 -- a plane by its four numbers, in the order of the parameters
 abbrev pub planeBy : ℕ → ℕ → ℕ → ℕ → Plane
 planeBy width height stride origin = record { width = width; height = height; stride = stride; origin = origin }
-
--- for the private functions: a number that an i64 holds
-abbrev pub Small : Answer ℕ → Type 0
-Small (gives n) = n < 2 ^ 63
-Small (refused f) = Unit {0}

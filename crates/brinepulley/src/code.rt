@@ -3,7 +3,8 @@ ghost use mathlib.Core.Path.{_≡_};
 ghost use lib.IntN.{pos, negℤ};
 ghost use Rattle.answer.specs.Answer.{wholeAnswer, realAnswer};
 ghost use Rattle.detector.specs.Step.{stepAnswer};
-ghost use Rattle.brinepulley.specs.Coded.{coded, status, heldAfter, decided, Small};
+ghost use Rattle.brinepulley.specs.Coded.{coded, status, heldAfter, decided};
+ghost use Rattle.brinepulley.specs.Needs.{Codable};
 use answer::Real;
 use answer::Whole;
 use detector::Decision;
@@ -18,7 +19,7 @@ pub fn negated(fault: u32) -> i64
 
 // A whole number as it is, or the refusal negated.
 pub fn whole(answer: Whole) -> i64
-    requires { ⌜ Small (wholeAnswer answer) ⌝ }
+    requires { ⌜ Codable (wholeAnswer answer) ⌝ }
     ensures { λ r. ⌜ r ≡ coded (wholeAnswer answer) ⌝ }
 {
     match answer {

@@ -14,7 +14,7 @@ use Rattle.answer.specs.Refusal.{_orElse_}
 use Rattle.answer.specs.Answer.{answered}
 use Rattle.sums.specs.Sums.{sumBelow}
 use Rattle.sums.specs.Table.{table}
-use Rattle.plane.specs.Planes.{badSide, badShape, pastSamples, sizesDiffer, planeFault, sizesFault, depthFault, pairFault}
+use Rattle.plane.specs.Planes.{badSide, badPlane, pastSamples, sizesDiffer, planeFault, sizesFault, depthFault, byteFault, pairFault}
 use Rattle.scale.specs.Scale.{sizeFault, factorBy, scaleOf}
 use Rattle.hadamard.specs.Transform.{sumZ, sign, output, transformed}
 use Rattle.satd.specs.Satd.{satdValue}
@@ -46,7 +46,7 @@ by-test (r ∷ rows) t (suc k) h = by-test rows (and-both (same (r .given) (r .s
 
 tested : allSame starred ≡ true
 unfolding
-    starred allSame answered _orElse_ sumBelow table badSide badShape pastSamples sizesDiffer planeFault sizesFault depthFault pairFault sizeFault
+    starred allSame answered _orElse_ sumBelow table badSide badPlane pastSamples sizesDiffer planeFault sizesFault depthFault byteFault pairFault sizeFault
     factorBy scaleOf sumZ sign output transformed pow one ones satdValue importanceTotal isScaled fastThreshold importanceThreshold settingsFault anyOf
     countOf walkBack backwardOf cutOf stateFault numberFault lengthFault stopFault listsFault stepFault acceptedOf stepOf ofBits toBits ofInt sub
     mul div lt le eq

@@ -6,22 +6,22 @@ use native.Mathlib.Omega.{arith}
 use lib.IntN.{ℤ, natAbs}
 use Rattle.hadamard.specs.declared.Two.{Two}
 use Rattle.hadamard.specs.Transform.{sumZ, output}
-use Rattle.hadamard.specs.Steps.{twoOf, fourOf, placed, Small, reach, stores, lined, LineIn}
+use Rattle.hadamard.specs.Steps.{twoOf, fourOf, nth, FourWithin, lineEntry, stores, lined, LineIn}
 use Rattle.hadamard.proofs.SignedLaws.{abs-add, abs-sub}
 use Rattle.hadamard.proofs.Halves.{output-most}
 use Rattle.hadamard.proofs.Places.{stores-ext}
 
 -- ---- four numbers by their places
-pub placed-four : (g : ℕ → ℤ) (k : ℕ) → k < 4 → placed (fourOf g) k ≡ g k
-placed-four g zero h = refl
-placed-four g (suc zero) h = refl
-placed-four g (suc (suc zero)) h = refl
-placed-four g (suc (suc (suc zero))) h = refl
-placed-four g (suc (suc (suc (suc k)))) h = absurd (omega arith)
+pub nth-four : (g : ℕ → ℤ) (k : ℕ) → k < 4 → nth (fourOf g) k ≡ g k
+nth-four g zero h = refl
+nth-four g (suc zero) h = refl
+nth-four g (suc (suc zero)) h = refl
+nth-four g (suc (suc (suc zero))) h = refl
+nth-four g (suc (suc (suc (suc k)))) h = absurd (omega arith)
 
 -- ---- how large the numbers are
-pub four-small : (m : ℕ) (g : ℕ → ℤ) → ((j : ℕ) → j < 4 → natAbs (g j) ≤ m) → Small m (fourOf g)
-four-small m g h = record { m0 = h 0 (omega arith); m1 = h 1 (omega arith); m2 = h 2 (omega arith); m3 = h 3 (omega arith) }
+pub four-within : (m : ℕ) (g : ℕ → ℤ) → ((j : ℕ) → j < 4 → natAbs (g j) ≤ m) → FourWithin m (fourOf g)
+four-within m g h = record { m0 = h 0 (omega arith); m1 = h 1 (omega arith); m2 = h 2 (omega arith); m3 = h 3 (omega arith) }
 
 -- a butterfly's numbers are at most twice as large
 pub record Doubled (m : ℕ) (r : Two) : Type 0 where
@@ -33,12 +33,12 @@ doubled m a b h k r e = rw e (record { sum = omega (arith, abs-add a b); differe
 
 -- ---- what is loaded, transformed and stored
 module _ (l : List ℤ) (at step : ℕ) where
-  pub loaded-outputs : fourOf (output 4 (placed (fourOf (reach l at step)))) ≡ fourOf (output 4 (reach l at step))
+  pub loaded-outputs : fourOf (output 4 (nth (fourOf (lineEntry l at step)))) ≡ fourOf (output 4 (lineEntry l at step))
   unfolding output sumZ
   loaded-outputs = refl
 
-  pub outputs-small : (m : ℕ) → LineIn 4 at step m l → Small (4 * m) (fourOf (output 4 (reach l at step)))
-  outputs-small m p = four-small (4 * m) (output 4 (reach l at step)) (λ k _. output-most m 4 (reach l at step) k (p .most))
+  pub outputs-within : (m : ℕ) → LineIn 4 at step m l → FourWithin (4 * m) (fourOf (output 4 (lineEntry l at step)))
+  outputs-within m p = four-within (4 * m) (output 4 (lineEntry l at step)) (λ k _. output-most m 4 (lineEntry l at step) k (p .most))
 
-  pub line-of-4 : stores 4 at step (placed (fourOf (output 4 (reach l at step)))) l ≡ lined 4 at step l
-  line-of-4 = stores-ext at step (placed (fourOf (output 4 (reach l at step)))) 4 (output 4 (reach l at step)) l (placed-four (output 4 (reach l at step)))
+  pub line-of-4 : stores 4 at step (nth (fourOf (output 4 (lineEntry l at step)))) l ≡ lined 4 at step l
+  line-of-4 = stores-ext at step (nth (fourOf (output 4 (lineEntry l at step)))) 4 (output 4 (lineEntry l at step)) l (nth-four (output 4 (lineEntry l at step)))

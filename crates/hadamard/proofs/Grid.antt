@@ -11,7 +11,7 @@ use lib.IntN.{ℤ, pos}
 use lib.ListN.{length, getD}
 use lib.Seq.{ext-getD}
 use Rattle.hadamard.specs.Transform.{output}
-use Rattle.hadamard.specs.Steps.{reach, lined, allLined, LineIn, LinesIn}
+use Rattle.hadamard.specs.Steps.{lineEntry, lined, allLined, LineIn, LinesIn}
 use Rattle.hadamard.proofs.Halves.{output-ext, output-most}
 use Rattle.hadamard.proofs.Digits.{output-digits}
 use Rattle.hadamard.proofs.Places.{at-place, length-stores, stores-at, stores-other, length-lined, lined-other, lined-done}
@@ -38,12 +38,12 @@ module _ (m u : ℕ) (some : 0 < u) (q : ℕ) (l : List ℤ) (p : LineIn (m * 4)
   columns = allLined m u (4 * u) 4 l
 
   -- entry (i, j) of the columns
-  column-entry : (i j : ℕ) → i < m → j < 4 → getD columns (i * (4 * u) + j * u) (pos 0) ≡ output m (λ (k : ℕ). reach l 0 u (k * 4 + j)) i
+  column-entry : (i j : ℕ) → i < m → j < 4 → getD columns (i * (4 * u) + j * u) (pos 0) ≡ output m (λ (k : ℕ). lineEntry l 0 u (k * 4 + j)) i
   unfolding columns
   column-entry i j i< j< =
       at-place columns (i * (4 * u) + j * u) (j * u + i * (4 * u)) (omega arith)
       ∙ lined-done m u (4 * u) 4 q l columns-in 4 j i (omega arith) j< i<
-      ∙ output-ext m (reach l (j * u) (4 * u)) (λ (k : ℕ). reach l 0 u (k * 4 + j)) i (λ k _. at-place l (j * u + k * (4 * u)) (0 + (k * 4 + j) * u) (omega arith))
+      ∙ output-ext m (lineEntry l (j * u) (4 * u)) (λ (k : ℕ). lineEntry l 0 u (k * 4 + j)) i (λ k _. at-place l (j * u + k * (4 * u)) (0 + (k * 4 + j) * u) (omega arith))
 
   long : length columns ≡ length l
   unfolding columns
@@ -56,7 +56,7 @@ module _ (m u : ℕ) (some : 0 < u) (q : ℕ) (l : List ℤ) (p : LineIn (m * 4)
         some = some;
         own = own;
         room = λ a i a< i<. omega (arith, p .room (a * 4 + i) (digits-lt a< i<), long);
-        most = λ a i a< i<. rw (column-entry a i a< i<) (output-most q m (λ (k : ℕ). reach l 0 u (k * 4 + i)) a (λ k k<. p .most (k * 4 + i) (digits-lt k< i<)));
+        most = λ a i a< i<. rw (column-entry a i a< i<) (output-most q m (λ (k : ℕ). lineEntry l 0 u (k * 4 + i)) a (λ k k<. p .most (k * 4 + i) (digits-lt k< i<)));
       }
     where
       own : (a b i j : ℕ) → a < m → b < m → i < 4 → j < 4 → a * (4 * u) + i * u ≡ b * (4 * u) + j * u → a ≡ b
@@ -67,12 +67,12 @@ module _ (m u : ℕ) (some : 0 < u) (q : ℕ) (l : List ℤ) (p : LineIn (m * 4)
   rows = allLined 4 (4 * u) u m columns
 
   -- an entry of the line, of row a and column b
-  row-entry : (a b : ℕ) → a < m → b < 4 → getD rows (a * (4 * u) + b * u) (pos 0) ≡ output (m * 4) (reach l 0 u) (a * 4 + b)
+  row-entry : (a b : ℕ) → a < m → b < 4 → getD rows (a * (4 * u) + b * u) (pos 0) ≡ output (m * 4) (lineEntry l 0 u) (a * 4 + b)
   unfolding columns rows
   row-entry a b a< b< =
       lined-done 4 (4 * u) u m (m * q) columns rows-in m a b (omega arith) a< b<
-      ∙ output-ext 4 (reach columns (a * (4 * u)) u) (λ (j : ℕ). output m (λ (k : ℕ). reach l 0 u (k * 4 + j)) a) b (λ j j<. column-entry a j a< j<)
-      ∙ sym (output-digits 2 a b b< m (reach l 0 u))
+      ∙ output-ext 4 (lineEntry columns (a * (4 * u)) u) (λ (j : ℕ). output m (λ (k : ℕ). lineEntry l 0 u (k * 4 + j)) a) b (λ j j<. column-entry a j a< j<)
+      ∙ sym (output-digits 2 a b b< m (lineEntry l 0 u))
 
   -- a place that is not on the line is as it was
   other : (t : ℕ) → ((k : ℕ) → k < m * 4 → t ≡ k * u → ⊥) → getD rows t (pos 0) ≡ getD (lined (m * 4) 0 u l) t (pos 0)
@@ -80,7 +80,7 @@ module _ (m u : ℕ) (some : 0 < u) (q : ℕ) (l : List ℤ) (p : LineIn (m * 4)
   other t off =
       lined-other 4 (4 * u) u m columns t (λ a k a< k< e. off (a * 4 + k) (digits-lt a< k<) (omega arith))
       ∙ lined-other m u (4 * u) 4 l t (λ a k a< k< e. off (k * 4 + a) (digits-lt k< a<) (omega arith))
-      ∙ sym (stores-other 0 u (output (m * 4) (reach l 0 u)) (m * 4) l t (λ k k< e. off k k< (omega arith)))
+      ∙ sym (stores-other 0 u (output (m * 4) (lineEntry l 0 u)) (m * 4) l t (λ k k< e. off k k< (omega arith)))
 
   -- one that is on it has a number
   number : (t k : ℕ) → t ≡ k * u → (t % u ≡ 0) × (t / u ≡ k)
@@ -98,13 +98,13 @@ module _ (m u : ℕ) (some : 0 < u) (q : ℕ) (l : List ℤ) (p : LineIn (m * 4)
       let place : t ≡ k / 4 * (4 * u) + k % 4 * u = omega (arith, ap (λ (s : ℕ). s * u) by-four) in
       at-place rows t (k / 4 * (4 * u) + k % 4 * u) place
       ∙ row-entry (k / 4) (k % 4) (omega arith) (omega arith)
-      ∙ ap (output (m * 4) (reach l 0 u)) by-four
-      ∙ sym (at-place (lined (m * 4) 0 u l) t (0 + k * u) (omega arith) ∙ stores-at 0 u (output (m * 4) (reach l 0 u)) some (m * 4) l k k< (p .room k k<))
+      ∙ ap (output (m * 4) (lineEntry l 0 u)) by-four
+      ∙ sym (at-place (lined (m * 4) 0 u l) t (0 + k * u) (omega arith) ∙ stores-at 0 u (output (m * 4) (lineEntry l 0 u)) some (m * 4) l k k< (p .room k k<))
 
   pub grid : allLined 4 (4 * u) u m (allLined m u (4 * u) 4 l) ≡ lined (m * 4) 0 u l
   unfolding columns rows
   grid =
-      let out : ℕ → ℤ = output (m * 4) (reach l 0 u) in
+      let out : ℕ → ℤ = output (m * 4) (lineEntry l 0 u) in
       let size : length rows ≡ length l = length-lined 4 (4 * u) u m columns ∙ long in
       ext-getD (pos 0) rows (lined (m * 4) 0 u l) (size ∙ sym (length-stores 0 u out (m * 4) l))
       (λ t t<. entry t (ℕ-discrete (t % u) 0) (decLt (t / u) (m * 4)))

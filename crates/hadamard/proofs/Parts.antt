@@ -9,7 +9,7 @@ use lib.IntN.{ℤ, pos}
 use lib.ListN.{length, set, take, drop, length-drop, drop-of-length-le, take-append-drop}
 use lib.Seq.{length-take-le, take-all, getD-drop}
 use Rattle.hadamard.specs.Transform.{output}
-use Rattle.hadamard.specs.Steps.{reach, stores, lined, LineIn}
+use Rattle.hadamard.specs.Steps.{lineEntry, stores, lined, LineIn}
 use Rattle.hadamard.proofs.Halves.{output-ext}
 use Rattle.hadamard.proofs.Places.{at-place, stores-ext}
 
@@ -30,8 +30,8 @@ module _ (n i step : ℕ) (l : List ℤ) (h : i ≤ length l) where
   all : take (length l - i) (drop i l) ≡ drop i l
   all = take-all (length l - i) (drop i l) (omega (arith, length-drop i l))
 
-  reached : (k : ℕ) → reach (take (length l - i) (drop i l)) 0 step k ≡ reach l i step k
-  reached k = ap (λ (x : List ℤ). reach x 0 step k) all ∙ getD-drop i l (0 + k * step) (pos 0) ∙ at-place l (i + (0 + k * step)) (i + k * step) (omega arith)
+  reached : (k : ℕ) → lineEntry (take (length l - i) (drop i l)) 0 step k ≡ lineEntry l i step k
+  reached k = ap (λ (x : List ℤ). lineEntry x 0 step k) all ∙ getD-drop i l (0 + k * step) (pos 0) ∙ at-place l (i + (0 + k * step)) (i + k * step) (omega arith)
 
   pub part-line : (q : ℕ) → LineIn n i step q l → LineIn n 0 step q (take (length l - i) (drop i l))
   part-line q p =
@@ -39,11 +39,11 @@ module _ (n i step : ℕ) (l : List ℤ) (h : i ≤ length l) where
 
   pub part-lined : (x : List ℤ) → x ≡ lined n 0 step (take (length l - i) (drop i l)) → putMid i (length l - i) l x ≡ lined n i step l
   part-lined x e =
-      let out : ℕ → ℤ = output n (reach l i step) in
+      let out : ℕ → ℤ = output n (lineEntry l i step) in
       let rest : drop (length l - i) (drop i l) ≡ [] = drop-of-length-le (drop i l) {i = length l - i} (omega (arith, length-drop i l)) in
       let inner : x ≡ stores n 0 step out (drop i l) =
       e
-      ∙ stores-ext 0 step (output n (reach (take (length l - i) (drop i l)) 0 step)) n out (take (length l - i) (drop i l))
-      (λ k _. output-ext n (reach (take (length l - i) (drop i l)) 0 step) (reach l i step) k (λ j _. reached j))
+      ∙ stores-ext 0 step (output n (lineEntry (take (length l - i) (drop i l)) 0 step)) n out (take (length l - i) (drop i l))
+      (λ k _. output-ext n (lineEntry (take (length l - i) (drop i l)) 0 step) (lineEntry l i step) k (λ j _. reached j))
       ∙ ap (stores n 0 step out) all in
       rw (rest, append-nil x) (ap (λ (y : List ℤ). take i l ++ y) inner ∙ stores-behind n step out (take i l) (drop i l) ∙ rw (length-take-le i l h, take-append-drop i l))

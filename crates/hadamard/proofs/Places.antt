@@ -10,7 +10,7 @@ use lib.ListN.{length, getD, set, length-set}
 use lib.Seq.{getD-set-same, getD-set-other}
 use lib.IntN.{ℤ, pos}
 use Rattle.hadamard.specs.Transform.{output}
-use Rattle.hadamard.specs.Steps.{reach, stores, lined, allLined, LineIn, LinesIn}
+use Rattle.hadamard.specs.Steps.{lineEntry, stores, lined, allLined, LineIn, LinesIn}
 use Rattle.hadamard.proofs.Halves.{output-ext}
 
 pub at-place : (x : List ℤ) (s t : ℕ) → s ≡ t → getD x s (pos 0) ≡ getD x t (pos 0)
@@ -62,7 +62,7 @@ module _ (n first step : ℕ) where
   unfolding allLined
   length-lined zero l = refl
   length-lined (suc m) l =
-      length-stores (m * first) step (output n (reach (allLined n first step m l) (m * first) step)) n (allLined n first step m l)
+      length-stores (m * first) step (output n (lineEntry (allLined n first step m l) (m * first) step)) n (allLined n first step m l)
       ∙ length-lined m l
 
   -- a place on none of them is as it was
@@ -71,13 +71,13 @@ module _ (n first step : ℕ) where
   unfolding allLined
   lined-other zero l t h = refl
   lined-other (suc m) l t h =
-      stores-other (m * first) step (output n (reach (allLined n first step m l) (m * first) step)) n (allLined n first step m l) t
+      stores-other (m * first) step (output n (lineEntry (allLined n first step m l) (m * first) step)) n (allLined n first step m l) t
       (λ k k< e. h m k (omega arith) k< e)
       ∙ lined-other m l t (λ a k a< k<. h a k (omega arith) k<)
 
   module _ (c q : ℕ) (l : List ℤ) (p : LinesIn n c first step q l) where
     -- the lines to come are as they were
-    pub lined-left : (m a k : ℕ) → m ≤ a → a < c → k < n → reach (allLined n first step m l) (a * first) step k ≡ reach l (a * first) step k
+    pub lined-left : (m a k : ℕ) → m ≤ a → a < c → k < n → lineEntry (allLined n first step m l) (a * first) step k ≡ lineEntry l (a * first) step k
     lined-left m a k h a< k< =
         lined-other m l (a * first + k * step) (λ b i b< i< e. let s = p .own a b k i a< (omega arith) k< i< e in omega arith)
 
@@ -87,20 +87,20 @@ module _ (n first step : ℕ) where
         record { room = λ j j<. omega (arith, p .room i j i< j<, length-lined i l); most = λ j j<. rw (lined-left i i j (omega arith) i< j<) (p .most i j i< j<) }
 
     -- those done are transformed
-    pub lined-done : (m a k : ℕ) → m ≤ c → a < m → k < n → reach (allLined n first step m l) (a * first) step k ≡ output n (reach l (a * first) step) k
+    pub lined-done : (m a k : ℕ) → m ≤ c → a < m → k < n → lineEntry (allLined n first step m l) (a * first) step k ≡ output n (lineEntry l (a * first) step) k
     unfolding allLined
     lined-done zero a k m≤ h k< = absurd (omega arith)
     lined-done (suc m) a k m≤ h k< =
         let before : List ℤ = allLined n first step m l in
         ⊎-elim
         (λ (e : a ≡ m).
-        subst (λ (b : ℕ). reach (lined n (m * first) step before) (b * first) step k ≡ output n (reach l (b * first) step) k) (sym e)
-        (stores-at (m * first) step (output n (reach before (m * first) step)) (p .some) n before k k<
+        subst (λ (b : ℕ). lineEntry (lined n (m * first) step before) (b * first) step k ≡ output n (lineEntry l (b * first) step) k) (sym e)
+        (stores-at (m * first) step (output n (lineEntry before (m * first) step)) (p .some) n before k k<
         (omega (arith, p .room m k (omega arith) k<, length-lined m l))
-        ∙ output-ext n (reach before (m * first) step) (reach l (m * first) step) k
+        ∙ output-ext n (lineEntry before (m * first) step) (lineEntry l (m * first) step) k
         (λ j j<. lined-left m m j (omega arith) (omega arith) j<)))
         (λ (l< : a < m).
-        stores-other (m * first) step (output n (reach before (m * first) step)) n before (a * first + k * step)
+        stores-other (m * first) step (output n (lineEntry before (m * first) step)) n before (a * first + k * step)
         (λ i i< e. let q = p .own a m k i (omega arith) (omega arith) k< i< e in omega arith)
         ∙ lined-done m a k (omega arith) l< k<)
         (eq-or-lt-of-le (omega arith))

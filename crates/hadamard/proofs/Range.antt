@@ -5,16 +5,16 @@ use mathlib.Core.List.{List, [], _∷_}
 use Prim.Native.Nat.{ℕ, zero, suc, _+_, _-_, _*_, _≤_, _<_}
 use native.Mathlib.Numerals.{add-one}
 use native.Mathlib.Omega.{arith}
-use borrow.Author.Tests.{lt-ltb, le-ltb, ltb-true, ltb-false, ne-eqb, eq-eqb, eqb-true}
+use borrow.Author.Tests.{lt-ltb, le-ltb, ltb-true, ltb-false, ne-eqb, eq-eqb, eqb-true, not-false}
 use lib.Dec.{eqb}
 use lib.IntN.{ℤ, pos, negsuc, natAbs}
 use lib.ListN.{length, getD, drop, drop-of-length-le}
 use lib.Seq.{drop-cons}
 use lib.Signed.{ltZ}
-use Rattle.answer.specs.Answer.{lentAfter}
-use Rattle.answer.specs.Refusal.{refusal, _orElse_}
+use Rattle.answer.specs.Refusal.{refusal}
+use Rattle.answer.proofs.Laws.{or-given, or-later, or-none, passed, lent-written}
 use Rattle.hadamard.specs.Transform.{entryMost, beyondMost, someBeyond, transformFault, transformed, afterTransform}
-use Rattle.hadamard.specs.Steps.{countBeyond, Within}
+use Rattle.hadamard.specs.Steps.{countBeyond, AllWithin}
 
 -- ---- the tests of one entry
 pub below-least : (z : ℤ) → ltZ z (negsuc (entryMost - 1)) ≡ true → 1 ≡ refusal 1 (beyondMost z)
@@ -71,7 +71,7 @@ unpicked : (t b : Bool) → cond t true b ≡ false → (t ≡ false) × (b ≡ 
 unpicked true b e = let w : _≡_ {A = ℕ} 0 1 = cc in absurd (omega arith)
 unpicked false b e = (refl, e)
 
-pub within : (l : List ℤ) → someBeyond l ≡ false → Within entryMost l
+pub within : (l : List ℤ) → someBeyond l ≡ false → AllWithin entryMost l
 unfolding someBeyond
 within l e = record { most = each l e }
   where
@@ -80,35 +80,30 @@ within l e = record { most = each l e }
     each (z ∷ l) e zero = ltb-false entryMost (natAbs z) (unpicked (beyondMost z) (someBeyond l) e .0)
     each (z ∷ l) e (suc i) = each l (unpicked (beyondMost z) (someBeyond l) e .1) i
 
-pub within-more : (m n : ℕ) (l : List ℤ) → m ≤ n → Within m l → Within n l
+pub within-more : (m n : ℕ) (l : List ℤ) → m ≤ n → AllWithin m l → AllWithin n l
 within-more m n l h w = record { most = λ i. omega (arith, w .most i) }
 
 -- and back
-pub none-beyond : (l : List ℤ) → Within entryMost l → someBeyond l ≡ false
+pub none-beyond : (l : List ℤ) → AllWithin entryMost l → someBeyond l ≡ false
 unfolding someBeyond
 none-beyond [] w = refl
 none-beyond (z ∷ l) w = rw (le-ltb entryMost (natAbs z) (w .most 0)) (none-beyond l (record { most = λ i. w .most (suc i) }))
 
 -- ---- the refusals, and what is left
 pub wrong-length : (n : ℕ) (l : List ℤ) → (length l ≡ n * n → ⊥) → 2 ≡ transformFault n l
-unfolding _orElse_
-wrong-length n l h = rw (ne-eqb (length l) (n * n) h)
+wrong-length n l h = or-given 2 _ _ (rw (ne-eqb (length l) (n * n) h)) (λ e. omega arith)
 
 module _ (n : ℕ) (l : List ℤ) (size : length l ≡ n * n) where
   pub too-large : someBeyond l ≡ true → 10 ≡ transformFault n l
-  unfolding _orElse_
-  too-large e = rw (eq-eqb (length l) (n * n) size, e)
+  too-large e = or-later 10 _ _ (rw (eq-eqb (length l) (n * n) size)) (rw e)
 
   pub accepted : someBeyond l ≡ false → (0 ≡ transformFault n l) × (transformed n l ≡ afterTransform n l)
-  unfolding _orElse_ lentAfter
-  accepted e = rw (eq-eqb (length l) (n * n) size, e) (refl, refl)
+  accepted e =
+      let none : 0 ≡ transformFault n l = or-later 0 _ _ (rw (eq-eqb (length l) (n * n) size)) (rw e) in
+      (none, lent-written _ _ _ none)
 
 -- what is known of a list that is not refused
-pub unrefused : (n : ℕ) (l : List ℤ) → transformFault n l ≡ 0 → (length l ≡ n * n) × (Within entryMost l)
-unfolding _orElse_
-unrefused n l e = by-tests (eqb (length l) (n * n)) (someBeyond l) (eqb-true (length l) (n * n)) (within l) e
-  where
-    by-tests : (s b : Bool) → (s ≡ true → length l ≡ n * n) → (b ≡ false → Within entryMost l) → refusal 2 (not s) orElse refusal 10 b ≡ 0 → (length l ≡ n * n) × (Within entryMost l)
-    by-tests true true f g e = absurd (omega arith)
-    by-tests true false f g e = (f refl, g refl)
-    by-tests false b f g e = absurd (omega arith)
+pub unrefused : (n : ℕ) (l : List ℤ) → transformFault n l ≡ 0 → (length l ≡ n * n) × (AllWithin entryMost l)
+unrefused n l e =
+    let t = or-none (refusal 2 (not (eqb (length l) (n * n)))) (refusal 10 (someBeyond l)) e in
+    (eqb-true _ _ (not-false _ (passed 1 _ (t .0))), within l (passed 9 _ (t .1)))

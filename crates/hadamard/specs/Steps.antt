@@ -29,8 +29,8 @@ countBeyond (z ∷ l) = refusal 1 (beyondMost z) + countBeyond l
 abbrev pub fourOf : (ℕ → ℤ) → Four
 fourOf g = record { x0 = g 0; x1 = g 1; x2 = g 2; x3 = g 3 }
 
-abbrev pub placed : Four → ℕ → ℤ
-placed x j = getD (x .x0 ∷ x .x1 ∷ x .x2 ∷ x .x3 ∷ []) j (pos 0)
+abbrev pub nth : Four → ℕ → ℤ
+nth x j = getD (x .x0 ∷ x .x1 ∷ x .x2 ∷ x .x3 ∷ []) j (pos 0)
 
 -- a sum and a difference
 abbrev pub twoOf : ℤ → ℤ → Two
@@ -51,15 +51,15 @@ pairedFour s d i =
     record { x0 = twoAt s (2 * i) .sum; x1 = twoAt d (2 * i) .sum; x2 = twoAt s (2 * i) .difference; x3 = twoAt d (2 * i) .difference }
 
 -- each of four numbers is at most m in size
-pub record Small (m : ℕ) (x : Four) : Type 0 where
+pub record FourWithin (m : ℕ) (x : Four) : Type 0 where
   pub m0 : natAbs (x .x0) ≤ m
   pub m1 : natAbs (x .x1) ≤ m
   pub m2 : natAbs (x .x2) ≤ m
   pub m3 : natAbs (x .x3) ≤ m
 
 -- entry j of a line of l: from place at on, a step apart
-abbrev pub reach : List ℤ → ℕ → ℕ → ℕ → ℤ
-reach l at step j = getD l (at + j * step) (pos 0)
+abbrev pub lineEntry : List ℤ → ℕ → ℕ → ℕ → ℤ
+lineEntry l at step j = getD l (at + j * step) (pos 0)
 
 -- l with g 0, .., g (n - 1) on that line
 unfoldable pub stores : ℕ → ℕ → ℕ → (ℕ → ℤ) → List ℤ → List ℤ
@@ -68,7 +68,7 @@ stores (suc n) at step g l = set (stores n at step g l) (at + n * step) (g n)
 
 -- l with the n entries of that line transformed
 abbrev pub lined : ℕ → ℕ → ℕ → List ℤ → List ℤ
-lined n at step l = stores n at step (output n (reach l at step)) l
+lined n at step l = stores n at step (output n (lineEntry l at step)) l
 
 -- l after the first m of its lines are transformed, line a from place a * first on
 unfoldable pub allLined : ℕ → ℕ → ℕ → ℕ → List ℤ → List ℤ
@@ -76,17 +76,17 @@ allLined n first step zero l = l
 allLined n first step (suc m) l = lined n (m * first) step (allLined n first step m l)
 
 -- every entry of l is at most m in size
-pub record Within (m : ℕ) (l : List ℤ) : Type 0 where
+pub record AllWithin (m : ℕ) (l : List ℤ) : Type 0 where
   pub most : (i : ℕ) → natAbs (getD l i (pos 0)) ≤ m
 
 -- a line of n entries lies in l, and they are at most m in size
 pub record LineIn (n at step m : ℕ) (l : List ℤ) : Type 0 where
   pub room : (j : ℕ) → j < n → at + j * step < length l
-  pub most : (j : ℕ) → j < n → natAbs (reach l at step j) ≤ m
+  pub most : (j : ℕ) → j < n → natAbs (lineEntry l at step j) ≤ m
 
 -- m lines of n entries lie in l, no two share a place, and their entries are at most q in size
 pub record LinesIn (n m first step q : ℕ) (l : List ℤ) : Type 0 where
   pub some : 0 < step
   pub own : (a b i j : ℕ) → a < m → b < m → i < n → j < n → a * first + i * step ≡ b * first + j * step → a ≡ b
   pub room : (a i : ℕ) → a < m → i < n → a * first + i * step < length l
-  pub most : (a i : ℕ) → a < m → i < n → natAbs (reach l (a * first) step i) ≤ q
+  pub most : (a i : ℕ) → a < m → i < n → natAbs (lineEntry l (a * first) step i) ≤ q

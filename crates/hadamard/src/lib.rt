@@ -6,7 +6,7 @@ ghost use lib.IntN.{natAbs};
 ghost use lib.ListN.{length};
 ghost use Rattle.answer.specs.Refusal.{refusal};
 ghost use Rattle.hadamard.specs.Transform.{output, entryMost, beyondMost, transformFault, afterTransform};
-ghost use Rattle.hadamard.specs.Steps.{countBeyond, twoOf, twoAt, pairSums, pairDifferences, pairedFour, fourOf, placed, Small, reach, stores, lined, allLined, Within, LineIn, LinesIn, lineMost, pairMost, outMost};
+ghost use Rattle.hadamard.specs.Steps.{countBeyond, twoOf, twoAt, pairSums, pairDifferences, pairedFour, fourOf, nth, FourWithin, lineEntry, stores, lined, allLined, AllWithin, LineIn, LinesIn, lineMost, pairMost, outMost};
 
 // The largest entry, and the least.
 const MOST: i32 = 65535;
@@ -41,8 +41,8 @@ fn butterfly(a: i32, b: i32) -> Two
 
 // The transform of four numbers.
 fn network(x: Four) -> Four
-    requires { ⌜ Small lineMost x ⌝ }
-    ensures { λ r. ⌜ r ≡ fourOf (output 4 (placed x)) ⌝ }
+    requires { ⌜ FourWithin lineMost x ⌝ }
+    ensures { λ r. ⌜ r ≡ fourOf (output 4 (nth x)) ⌝ }
 {
     let a = butterfly(x.x0, x.x1);
     let b = butterfly(x.x2, x.x3);
@@ -59,7 +59,7 @@ fn network(x: Four) -> Four
 // The four entries from place at on, a step apart.
 fn load(block: &[i32], at: usize, step: usize) -> Four
     requires { ⌜ at + 3 * step < length (now block) ⌝ }
-    ensures { λ r. ⌜ r ≡ fourOf (reach (now (block .entry)) at step) ⌝ }
+    ensures { λ r. ⌜ r ≡ fourOf (lineEntry (now (block .entry)) at step) ⌝ }
 {
     Four {
         x0: block[at + 0 * step],
@@ -72,8 +72,8 @@ fn load(block: &[i32], at: usize, step: usize) -> Four
 // Puts four numbers into these places.
 fn store(block: &mut [i32], at: usize, step: usize, y: Four)
     requires { ⌜ at + 3 * step < length (now block) ⌝ }
-    requires { ⌜ Small outMost y ⌝ }
-    ensures { λ _. ⌜ now (block .exit) ≡ stores 4 at step (placed y) (now (block .entry)) ⌝ }
+    requires { ⌜ FourWithin outMost y ⌝ }
+    ensures { λ _. ⌜ now (block .exit) ≡ stores 4 at step (nth y) (now (block .entry)) ⌝ }
 {
     let y0 = y.x0;
     let y1 = y.x1;
@@ -88,7 +88,7 @@ fn store(block: &mut [i32], at: usize, step: usize, y: Four)
 // The outputs of four entries of the list.
 fn outputs(block: &[i32], at: usize, step: usize) -> Four
     requires { ⌜ LineIn 4 at step lineMost (now block) ⌝ }
-    ensures { λ r. ⌜ r ≡ fourOf (output 4 (reach (now (block .entry)) at step)) ⌝ }
+    ensures { λ r. ⌜ r ≡ fourOf (output 4 (lineEntry (now (block .entry)) at step)) ⌝ }
 {
     network(load(block, at, step))
 }
@@ -136,7 +136,7 @@ fn columns(block: &mut [i32])
 // The sum and the difference of two neighbours.
 fn neighbours(list: &[i32], at: usize) -> Two
     requires { ⌜ at + 1 < length (now list) ⌝ }
-    requires { ⌜ Within pairMost (now list) ⌝ }
+    requires { ⌜ AllWithin pairMost (now list) ⌝ }
     ensures { λ r. ⌜ r ≡ twoAt (now (list .entry)) at ⌝ }
 {
     butterfly(list[at], list[at + 1])
@@ -145,7 +145,7 @@ fn neighbours(list: &[i32], at: usize) -> Two
 // The sums and the differences of the 32 pairs of neighbours.
 fn pairs(block: &[i32], sums: &mut [i32], differences: &mut [i32])
     requires { ⌜ (length (now block) ≡ 64) × (length (now sums) ≡ 32) × (length (now differences) ≡ 32) ⌝ }
-    requires { ⌜ Within lineMost (now block) ⌝ }
+    requires { ⌜ AllWithin lineMost (now block) ⌝ }
     ensures { λ _. ⌜ now (sums .exit) ≡ pairSums (now (block .entry)) ⌝ }
     ensures { λ _. ⌜ now (differences .exit) ≡ pairDifferences (now (block .entry)) ⌝ }
 {
@@ -161,7 +161,7 @@ fn pairs(block: &[i32], sums: &mut [i32], differences: &mut [i32])
 // The outputs of row i of four, from its pairs' sums and differences.
 fn row_outputs(sums: &[i32], differences: &[i32], i: usize) -> Four
     requires { ⌜ (2 * i + 1 < length (now sums)) × (2 * i + 1 < length (now differences)) ⌝ }
-    requires { ⌜ Within pairMost (now sums) × Within pairMost (now differences) ⌝ }
+    requires { ⌜ AllWithin pairMost (now sums) × AllWithin pairMost (now differences) ⌝ }
     ensures { λ r. ⌜ r ≡ pairedFour (now (sums .entry)) (now (differences .entry)) i ⌝ }
 {
     let y = neighbours(sums, 2 * i);
@@ -179,7 +179,7 @@ fn fours(sums: &[i32], differences: &[i32], block: &mut [i32])
     requires { ⌜ now sums ≡ pairSums (now block) ⌝ }
     requires { ⌜ now differences ≡ pairDifferences (now block) ⌝ }
     requires { ⌜ LinesIn 4 16 4 1 lineMost (now block) ⌝ }
-    requires { ⌜ Within lineMost (now block) ⌝ }
+    requires { ⌜ AllWithin lineMost (now block) ⌝ }
     ensures { λ _. ⌜ now (block .exit) ≡ allLined 4 4 1 16 (now (block .entry)) ⌝ }
 {
     for i in 0..16 {

@@ -1,23 +1,24 @@
 -- Sums and means of blocks, over the largest sample k. Assumes nothing.
 use mathlib.Core.List.{List}
-use mathlib.Core.Path.{_≡_, sym, _∙_}
+use mathlib.Core.Path.{_≡_, refl, sym, _∙_}
 use Prim.Native.Nat.{ℕ, _+_, _-_, _*_, _≤_, _<_, _^_}
 use native.Mathlib.Omega.{arith}
 use lib.ListN.{length, getD, take, drop}
 use lib.Seq.{getD-take, getD-drop}
-use Rattle.plane.specs.Blocks.{blockSide, blocksAcross, blocksDown, blockSample, blockStart}
+use Rattle.plane.specs.Blocks.{blockSide, blocksAcross, blocksDown, blockSample, blockStart, blockRow}
 use Rattle.plane.specs.Planes.{pairFault}
 use Rattle.plane.specs.declared.Plane.{Plane}
-use Rattle.plane.proofs.BlockLaws.{block-place}
-use Rattle.plane.proofs.PlaneLaws.{pair, measured, total-fits}
+use Rattle.plane.proofs.BlockLaws.{block-place, row-starts}
+use Rattle.plane.proofs.PlaneLaws.{Lies, Pair, pair, measured, total-fits}
 use Rattle.sums.specs.Sums.{sumBelow, apart}
-use Rattle.sums.proofs.SumLaws.{sum-ext, sum-most}
-use Rattle.importance.specs.Importance.{blockSum, mean, blockDifference, blocksDifference, importanceTotal, squareSum}
+use Rattle.sums.proofs.SumLaws.{sum-ext, sum-most, sum-to, Turn, turn}
+use Rattle.importance.specs.Importance.{blockSum, mean, blockDifference, blocksDifference, importanceTotal}
+use Rattle.importance.specs.Needs.{eightFrom, squareSum}
 
 -- a block's sum by places is the plane's own
 pub square-is : (p : Plane) (s : List ℕ) (y x : ℕ) → squareSum s (blockStart p y x) (p .stride) ≡ blockSum p s y x
 square-is p s y x =
-    sum-ext blockSide (λ (j : ℕ). sumBelow blockSide (λ (i : ℕ). getD s (blockStart p y x + j * p .stride + i) 0)) (λ (j : ℕ). sumBelow blockSide (λ (i : ℕ). blockSample p s y x j i))
+    sum-ext blockSide (eightFrom s (blockStart p y x) (p .stride)) (λ (j : ℕ). sumBelow blockSide (λ (i : ℕ). blockSample p s y x j i))
     (λ j _.
     sum-ext blockSide (λ (i : ℕ). getD s (blockStart p y x + j * p .stride + i) 0) (λ (i : ℕ). blockSample p s y x j i)
     (λ i _. sym (block-place p s y x j i)))
@@ -33,14 +34,21 @@ module _ (k : ℕ) (s : List ℕ) (l : (i : ℕ) → getD s i 0 ≤ k) where
   samples-most : (start n : ℕ) → sumBelow n (λ (i : ℕ). getD s (start + i) 0) ≤ n * k
   samples-most start n = sum-most k n (λ (i : ℕ). getD s (start + i) 0) (λ i _. l (start + i))
 
-  -- n rows of a block
-  pub rows-most : (start stride n : ℕ) → sumBelow n (λ (j : ℕ). sumBelow blockSide (λ (i : ℕ). getD s (start + j * stride + i) 0)) ≤ n * (blockSide * k)
-  rows-most start stride n =
-      sum-most (blockSide * k) n (λ (j : ℕ). sumBelow blockSide (λ (i : ℕ). getD s (start + j * stride + i) 0))
-      (λ j _. samples-most (start + j * stride) blockSide)
+  -- a row of eight, and a block
+  eight-most : (start stride j : ℕ) → eightFrom s start stride j ≤ blockSide * k
+  eight-most start stride j = samples-most (start + j * stride) blockSide
 
   pub squares-most : (start stride : ℕ) → squareSum s start stride ≤ 64 * k
-  squares-most start stride = omega (arith, rows-most start stride blockSide)
+  squares-most start stride = omega (arith, sum-most (blockSide * k) blockSide (eightFrom s start stride) (λ j _. eight-most start stride j))
+
+  -- a turn of the sum of a row, in a room that holds eight samples, and one of the sum of a block
+  pub row-turn : (room : ℕ) → blockSide * k < room → (i sum : ℕ) → i < blockSide → sum ≡ sumBelow i (λ (n : ℕ). getD s n 0)
+      → Turn room i sum (getD s i 0) (λ (n : ℕ). getD s n 0)
+  row-turn room fits i sum h e = turn k blockSide room (λ (n : ℕ). getD s n 0) (λ j _. l j) fits i sum (getD s i 0) h e refl
+
+  pub block-turn : (room start stride : ℕ) → blockSide * (blockSide * k) < room → (j sum part : ℕ) → j < blockSide
+      → sum ≡ sumBelow j (eightFrom s start stride) → part ≡ eightFrom s start stride j → Turn room j sum part (eightFrom s start stride)
+  block-turn room start stride fits = turn (blockSide * k) blockSide room (eightFrom s start stride) (λ j _. eight-most start stride j) fits
 
   block-most : (p : Plane) (y x : ℕ) → blockSum p s y x ≤ 64 * k
   block-most p y x = rw (sym (square-is p s y x)) (squares-most (blockStart p y x) (p .stride))
@@ -49,6 +57,32 @@ module _ (k : ℕ) (s : List ℕ) (l : (i : ℕ) → getD s i 0 ≤ k) where
 pub means-most : (k m n : ℕ) → m ≤ 64 * k → n ≤ 64 * k → apart (mean m) (mean n) ≤ k
 means-most k m n h i = omega arith
 
+-- the difference of block x, by the places where its row of blocks starts
+abbrev pub gapOf : List ℕ → ℕ → ℕ → List ℕ → ℕ → ℕ → ℕ → ℕ
+gapOf a start step b start2 step2 x =
+    apart (mean (squareSum a (start + x * blockSide) step)) (mean (squareSum b (start2 + x * blockSide) step2))
+
+-- all of the row is the planes' own
+pub gaps-are : (p : Plane) (a : List ℕ) (q : Plane) (b : List ℕ) (y start start2 : ℕ)
+    → Pair p (length a) q (length b) → y < blocksDown p → start ≡ blockRow p (length a) y → start2 ≡ blockRow q (length b) y
+    → sumBelow (blocksAcross p) (gapOf a start (p .stride) b start2 (q .stride)) ≡ blocksDifference p a q b y
+gaps-are p a q b y start start2 h hy e d =
+    sum-ext (blocksAcross p) (gapOf a start (p .stride) b start2 (q .stride)) (blockDifference p a q b y)
+    (λ x _. rw (
+      e ∙ row-starts p (length a) y (h .first) hy,
+      d ∙ row-starts q (length b) y (h .second) (omega (arith, h .heights)),
+      square-is p a y x,
+      square-is q b y x,
+    ))
+
+module _ (k : ℕ) (a b : List ℕ) (l : (i : ℕ) → getD a i 0 ≤ k) (m : (i : ℕ) → getD b i 0 ≤ k) (start step start2 step2 : ℕ) where
+  -- a turn of the sum over a row of n blocks
+  pub gaps-turn : (n room : ℕ) → n * k < room → (x total part : ℕ) → x < n
+      → total ≡ sumBelow x (gapOf a start step b start2 step2) → part ≡ gapOf a start step b start2 step2 x
+      → Turn room x total part (gapOf a start step b start2 step2)
+  gaps-turn n room =
+      turn k n room (gapOf a start step b start2 step2) (λ x _. means-most k _ _ (squares-most k a l _ _) (squares-most k b m _ _))
+
 module _ (k : ℕ) (p : Plane) (a : List ℕ) (q : Plane) (b : List ℕ) (l : (i : ℕ) → getD a i 0 ≤ k) (m : (i : ℕ) → getD b i 0 ≤ k) where
   -- n blocks of a row of blocks, and n such rows
   differences-most : (y n : ℕ) → sumBelow n (blockDifference p a q b y) ≤ n * k
@@ -56,12 +90,19 @@ module _ (k : ℕ) (p : Plane) (a : List ℕ) (q : Plane) (b : List ℕ) (l : (i
       sum-most k n (blockDifference p a q b y)
       (λ x _. means-most k (blockSum p a y x) (blockSum q b y x) (block-most k a l p y x) (block-most k b m q y x))
 
-  pub totals-most : (n : ℕ) → sumBelow n (blocksDifference p a q b) ≤ n * (blocksAcross p * k)
+  -- a turn of the sum over all rows of blocks
+  pub rows-turn : k < 2 ^ 16 → Lies p (length a) → (y total part : ℕ) → y < blocksDown p
+      → total ≡ sumBelow y (blocksDifference p a q b) → part ≡ blocksDifference p a q b y → Turn (2 ^ 42) y total part (blocksDifference p a q b)
+  rows-turn s f =
+      turn (blocksAcross p * k) (blocksDown p) (2 ^ 42) (blocksDifference p a q b) (λ y _. differences-most y (blocksAcross p))
+      (total-fits (blocksDown p) (blocksAcross p) k (omega arith) (omega arith) s)
+
+  totals-most : (n : ℕ) → sumBelow n (blocksDifference p a q b) ≤ n * (blocksAcross p * k)
   totals-most n = sum-most (blocksAcross p * k) n (blocksDifference p a q b) (λ y _. differences-most y (blocksAcross p))
 
   -- all blocks of two planes that are not refused
-  pub total-most : (depth : ℕ) → k < 2 ^ 16 → pairFault depth p (length a) q (length b) ≡ 0 → importanceTotal p a q b < 2 ^ 42
+  pub total-most : (depth : ℕ) → k < 2 ^ 16 → pairFault depth p a q b ≡ 0 → importanceTotal p a q b < 2 ^ 42
   unfolding importanceTotal
   total-most depth s e =
-      let f = pair p (length a) q (length b) (measured depth p (length a) q (length b) e) .first in
+      let f = pair p (length a) q (length b) (measured depth p a q b e) .first in
       omega (arith, totals-most (blocksDown p), total-fits (blocksDown p) (blocksAcross p) k (omega arith) (omega arith) s)

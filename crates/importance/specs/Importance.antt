@@ -2,10 +2,9 @@
 use Prim.Native.Nat.{ℕ, _+_, _*_, _/_}
 use mathlib.Core.List.{List}
 use lib.Ieee.{Float}
-use lib.ListN.{length, getD}
-use Rattle.answer.specs.Answer.{Answer, answered}
+use Rattle.answer.specs.Answer.{Answer}
 use Rattle.plane.specs.Blocks.{blockSide, blocksAcross, blocksDown, blockCount, blockSample}
-use Rattle.plane.specs.Planes.{pairFault}
+use Rattle.plane.specs.Planes.{pairAnswer}
 use Rattle.plane.specs.declared.Plane.{Plane}
 use Rattle.sums.specs.Quotient.{quotientOf}
 use Rattle.sums.specs.Sums.{sumBelow, apart}
@@ -30,13 +29,8 @@ unfoldable pub importanceTotal : Plane → List ℕ → Plane → List ℕ → �
 importanceTotal p a q b = sumBelow (blocksDown p) (blocksDifference p a q b)
 
 abbrev pub totalOf : ℕ → Plane → List ℕ → Plane → List ℕ → Answer ℕ
-totalOf depth p a q b = answered (pairFault depth p (length a) q (length b)) (importanceTotal p a q b)
+totalOf depth p a q b = pairAnswer depth p a q b (importanceTotal p a q b)
 
 -- "the total over the number of blocks. With no whole block this is 0/0, a NaN."
 abbrev pub importanceOf : ℕ → Plane → List ℕ → Plane → List ℕ → Answer Float
-importanceOf depth p a q b =
-    answered (pairFault depth p (length a) q (length b)) (quotientOf (importanceTotal p a q b) (blockCount p))
-
--- the same sum by places, for the private functions: eight rows of eight samples, a stride apart
-abbrev pub squareSum : List ℕ → ℕ → ℕ → ℕ
-squareSum s start stride = sumBelow blockSide (λ (j : ℕ). sumBelow blockSide (λ (i : ℕ). getD s (start + j * stride + i) 0))
+importanceOf depth p a q b = pairAnswer depth p a q b (quotientOf (importanceTotal p a q b) (blockCount p))

@@ -1,34 +1,37 @@
 -- A block's samples by their places, and the costs in row order. Assumes nothing.
-use mathlib.Core.Bool.{true, _||_}
+use mathlib.Core.Bool.{true}
 use mathlib.Core.List.{List}
 use mathlib.Core.Path.{_≡_, refl, sym, ap, _∙_}
 use Prim.Native.Nat.{ℕ, _+_, _-_, _*_, _/_, _%_, _≤_, _<_}
 use native.Mathlib.Decide.{decLt}
-use native.Mathlib.Nat.{zero-mul, add-mul}
+use native.Mathlib.Nat.{mul-le-mul-right, suc-mul}
 use native.Mathlib.Omega.{arith}
+use borrow.Author.Tests.{lt-ltb, le-ltb, ltb-false}
 use lib.Arith.{digits-div, digits-mod}
 use lib.Dec.{ltb}
 use lib.ListN.{length, getD, take, drop, replicate, getD-replicate, List·getD-eq-default}
 use lib.Seq.{getD-take, getD-drop}
 use Rattle.answer.specs.Answer.{gives, refused, wholeAnswer}
 use Rattle.answer.specs.Refusal.{refusal}
-use Rattle.answer.proofs.Laws.{or-none}
+use Rattle.answer.proofs.Laws.{or-given, or-later, or-none, passed, test-given, test-passed}
 use Rattle.answer.specs.declared.Whole.{Whole}
 use Rattle.answer.specs.declared.Whole.the-variants as whole
-use Rattle.plane.specs.Blocks.{blockSide, blocksAcross, blockCount, blockSample, blockStart}
-use Rattle.plane.specs.Planes.{maxSide, pairFault}
+use Rattle.plane.specs.Blocks.{blockSide, blocksAcross, blocksDown, blockCount, blockSample, blocksStart, blockStart, blockRow}
+use Rattle.plane.specs.Planes.{maxSide, sizesFault, pairFault}
 use Rattle.plane.specs.declared.Plane.{Plane}
-use Rattle.plane.proofs.BlockLaws.{block-place, count-most}
-use Rattle.plane.proofs.PlaneLaws.{pair, measured}
-use Rattle.satd.specs.Satd.{satdValue, satdOf}
+use Rattle.plane.proofs.BlockLaws.{block-in, block-place, count-most, row-starts}
+use Rattle.plane.proofs.PlaneLaws.{Pair, pair, measured, row-in}
+use Rattle.satd.specs.Satd.{blockSize, satdOf}
 use Rattle.satd.proofs.SatdLaws.{satd-given, satd-most}
 use Rattle.sums.specs.Table.{table}
 use Rattle.sums.specs.Written.{written}
 use Rattle.sums.proofs.TableLaws.{length-table, table-at, table-ext}
-use Rattle.sums.proofs.WrittenLaws.{written-again, written-ext, prefix-none}
-use Rattle.intra.specs.Fill.{flat, inRun}
-use Rattle.intra.specs.Costs.{blockSize, blockOf, prediction, costAt, intraFault, squareAt}
-use Rattle.intra.proofs.FillLaws.{below-beside, run-holds}
+use Rattle.sums.proofs.WrittenLaws.{written-value}
+use Rattle.intra.specs.Fill.{inRun}
+use Rattle.intra.specs.Costs.{blockOf, prediction, costAt, intraFault}
+use Rattle.intra.specs.Needs.{SquareIn, squareAt, squareOf, squareCost}
+use Rattle.intra.proofs.FillLaws.{run-holds}
+use Rattle.intra.proofs.Wrote.{Wrote, wrote-all}
 
 -- sample k of row y, read from the part that starts at the row, is the block's
 pub row-of-square : (s : List ℕ) (start stride y k : ℕ) → start + y * stride + 8 ≤ length s → k < 8
@@ -40,34 +43,28 @@ row-of-square s start stride y k h l =
     ∙ getD-drop (start + y * stride) s k 0
     ∙ rw (row, column)
 
--- the first y rows, and row y behind them
-pub rows-joined : (g : ℕ → ℕ) (y : ℕ) (block : List ℕ) → written (inRun (y * 8) 8) g (written (λ (k : ℕ). ltb k (y * 8)) g block) ≡ written (λ (k : ℕ). ltb k ((y + 1) * 8)) g block
-rows-joined g y block =
-    written-again (λ (k : ℕ). ltb k (y * 8)) (inRun (y * 8) 8) g block
-    ∙ written-ext (λ (k : ℕ). ltb k (y * 8) || inRun (y * 8) 8 k) (λ (k : ℕ). ltb k ((y + 1) * 8)) g block
-    (λ k. let e : y * 8 + 8 ≡ (y + 1) * 8 = omega arith in below-beside (y * 8) 8 k ∙ ap (ltb k) e)
-
 -- ---- one block's cost
 
-length-prediction : length prediction ≡ blockSize
+-- the SATD of a whole block against its prediction is never refused
+pub cost-given : (flat start stride : ℕ) (s a : List ℕ) (r : Whole) → a ≡ squareOf s start stride → wholeAnswer r ≡ satdOf a (replicate blockSize flat)
+    → gives (squareCost flat s start stride) ≡ wholeAnswer r
 unfolding prediction
-length-prediction = refl
+cost-given flat start stride s a r d e =
+    satd-given (squareOf s start stride) (replicate blockSize flat) (length-table blockSize (squareAt s start stride)) refl
+    ∙ sym (ap (λ (l : List ℕ). satdOf l (replicate blockSize flat)) d) ∙ sym e
 
--- an answer of the SATD of two whole blocks is a number, and that number is the cost
-module _ (a : List ℕ) (l : length a ≡ blockSize) (r : Whole) (e : wholeAnswer r ≡ satdOf a prediction) where
-  given : gives (satdValue a prediction) ≡ wholeAnswer r
-  given = satd-given a prediction l length-prediction ∙ sym e
-
-  pub cost-given : (n : ℕ) → r ≡ whole.Number n → n ≡ satdValue a prediction
-  cost-given n d = same (given ∙ ap wholeAnswer d)
+-- so that the answer is a number, and that number is the cost
+module _ {n : ℕ} (r : Whole) (e : gives n ≡ wholeAnswer r) where
+  pub number-given : (m : ℕ) → r ≡ whole.Number m → m ≡ n
+  number-given m d = same (e ∙ ap wholeAnswer d)
     where
-      same : gives (satdValue a prediction) ≡ gives n → n ≡ satdValue a prediction
+      same : gives n ≡ gives m → m ≡ n
       same q = cc
 
   pub never-refused : (f : ℕ) → r ≡ whole.Refused f → ⊥
-  never-refused f d = clash (given ∙ ap wholeAnswer d)
+  never-refused f d = clash (e ∙ ap wholeAnswer d)
     where
-      clash : gives (satdValue a prediction) ≡ refused f → ⊥
+      clash : gives n ≡ refused f → ⊥
       clash q = let z : _≡_ {A = ℕ} 0 1 = cc in omega arith
 
 -- it fits a u32, at samples of 8 bits as of 16
@@ -78,10 +75,10 @@ table-most k n g h i = go (decLt i n)
     go (yes l) = rw (table-at 0 n g i l) (h i)
     go (no m) = rw (List·getD-eq-default (table n g) 0 {n = i} (omega (arith, length-table n g))) (omega arith)
 
-pub cost-most : (k start stride : ℕ) (s : List ℕ) → flat ≤ k → ((i : ℕ) → getD s i 0 ≤ k) → satdValue (table blockSize (squareAt s start stride)) prediction ≤ 512 * k
+pub cost-most : (k flat start stride : ℕ) (s : List ℕ) → flat ≤ k → ((i : ℕ) → getD s i 0 ≤ k) → squareCost flat s start stride ≤ blockSize * blockSide * k
 unfolding prediction
-cost-most k start stride s h l =
-    satd-most k (table blockSize (squareAt s start stride)) (replicate blockSize flat)
+cost-most k flat start stride s h l =
+    satd-most k (squareOf s start stride) (replicate blockSize flat)
     (table-most k blockSize (squareAt s start stride) (λ i. l (start + i / 8 * stride + i % 8)))
     (λ i. flat-most i (decLt i blockSize))
   where
@@ -92,40 +89,98 @@ cost-most k start stride s h l =
 -- ---- the costs in row order
 
 -- the cost of block x of a row of blocks, by places: the row starts at `start`, and its costs at place `first`
-abbrev pub costFrom : List ℕ → ℕ → ℕ → ℕ → ℕ → ℕ
-costFrom s start stride first k = satdValue (table blockSize (squareAt s (start + (k - first) * 8) stride)) prediction
+abbrev pub costFrom : ℕ → List ℕ → ℕ → ℕ → ℕ → ℕ → ℕ
+costFrom flat s start stride first k = squareCost flat s (start + (k - first) * blockSide) stride
 
--- the row's costs are those that stand there in row order
-pub row-costs : (p : Plane) (s : List ℕ) (y k : ℕ) → inRun (y * blocksAcross p) (blocksAcross p) k ≡ true
-    → costFrom s (p .origin + y * blockSide * p .stride) (p .stride) (y * blocksAcross p) k ≡ costAt p s k
-row-costs p s y k e =
-    let h = run-holds (y * blocksAcross p) (blocksAcross p) k e in
-    let x = k - y * blocksAcross p in
-    let inside : x < blocksAcross p = omega arith in
-    let place : y * blocksAcross p + x ≡ k = omega arith in
-    let row : k / blocksAcross p ≡ y = ap (λ (i : ℕ). i / blocksAcross p) (sym place) ∙ digits-div y inside in
-    let column : k % blocksAcross p ≡ x = ap (λ (i : ℕ). i % blocksAcross p) (sym place) ∙ digits-mod y inside in
-    let block : blockOf p s y x ≡ table blockSize (squareAt s (blockStart p y x) (p .stride)) =
-    table-ext blockSize (λ (t : ℕ). blockSample p s y x (t / 8) (t % 8)) (squareAt s (blockStart p y x) (p .stride))
-    (λ t. block-place p s y x (t / 8) (t % 8)) in
-    rw (row, column, block)
+-- the cost that a turn gives
+pub turn-cost : (flat : ℕ) (s : List ℕ) (start stride first x n : ℕ) → n ≡ squareCost flat s (start + x * blockSide) stride → n ≡ costFrom flat s start stride first (first + x)
+turn-cost flat s start stride first x n e = let back : first + x - first ≡ x = omega arith in rw back e
 
--- no row of blocks, and one row more
-pub costs-none : (p : Plane) (s costs : List ℕ) → costs ≡ written (λ (k : ℕ). ltb k (0 * blocksAcross p)) (costAt p s) costs
-costs-none p s costs = rw zero-mul (prefix-none (costAt p s) costs)
+module _ (flat : ℕ) (p : Plane) (s : List ℕ) (y : ℕ) where
+  -- the row's costs are those that stand there in row order
+  row-costs : (k : ℕ) → inRun (y * blocksAcross p) (blocksAcross p) k ≡ true → costFrom flat s (blocksStart p y) (p .stride) (y * blocksAcross p) k ≡ costAt flat p s k
+  row-costs k e =
+      let h = run-holds (y * blocksAcross p) (blocksAcross p) k e in
+      let x = k - y * blocksAcross p in
+      let inside : x < blocksAcross p = omega arith in
+      let place : y * blocksAcross p + x ≡ k = omega arith in
+      let row : k / blocksAcross p ≡ y = ap (λ (i : ℕ). i / blocksAcross p) (sym place) ∙ digits-div y inside in
+      let column : k % blocksAcross p ≡ x = ap (λ (i : ℕ). i % blocksAcross p) (sym place) ∙ digits-mod y inside in
+      let block : blockOf p s y x ≡ squareOf s (blockStart p y x) (p .stride) =
+      table-ext blockSize (λ (t : ℕ). blockSample p s y x (t / 8) (t % 8)) (squareAt s (blockStart p y x) (p .stride))
+      (λ t. block-place p s y x (t / 8) (t % 8)) in
+      rw (row, column, block)
 
-pub costs-more : (p : Plane) (s : List ℕ) (y : ℕ) (costs : List ℕ)
-    → written (inRun (y * blocksAcross p) (blocksAcross p)) (costAt p s) (written (λ (k : ℕ). ltb k (y * blocksAcross p)) (costAt p s) costs)
-    ≡ written (λ (k : ℕ). ltb k ((y + 1) * blocksAcross p)) (costAt p s) costs
-costs-more p s y costs =
-    let a = blocksAcross p in
-    written-again (λ (k : ℕ). ltb k (y * a)) (inRun (y * a) a) (costAt p s) costs
-    ∙ written-ext (λ (k : ℕ). ltb k (y * a) || inRun (y * a) a k) (λ (k : ℕ). ltb k ((y + 1) * a)) (costAt p s) costs
-    (λ k. let e : y * a + a ≡ (y + 1) * a = omega (arith, add-mul y 1 a) in below-beside (y * a) a k ∙ ap (ltb k) e)
+  pub row-done : (start x : ℕ) (old new : List ℕ) → start ≡ blocksStart p y
+      → Wrote (inRun (y * blocksAcross p) x) (costFrom flat s start (p .stride) (y * blocksAcross p)) old new → x ≡ blocksAcross p
+      → new ≡ written (inRun (y * blocksAcross p) (blocksAcross p)) (costAt flat p s) old
+  row-done start x old new d w e =
+      wrote-all (inRun (y * blocksAcross p)) x (blocksAcross p) w e
+      ∙ rw d
+      (written-value (inRun (y * blocksAcross p) (blocksAcross p)) (costFrom flat s (blocksStart p y) (p .stride) (y * blocksAcross p)) (costAt flat p s) old row-costs)
 
--- the answer of a call that is not refused
-pub blocks-most : (depth : ℕ) (p : Plane) (n : ℕ) (w : Plane) (m room : ℕ) → intraFault depth p n w m room ≡ 0 → blockCount p ≤ maxSide * maxSide
-unfolding intraFault
-blocks-most depth p n w m room e =
-    let f = or-none (pairFault depth p n w m) (refusal 4 (ltb room (blockCount p))) e .0 in
-    count-most p n (pair p n w m (measured depth p n w m f) .first)
+-- ---- what a row of blocks of two planes that are not refused keeps to
+
+pub record RowIn (p : Plane) (n : ℕ) (w : Plane) (m room y start start2 : ℕ) : Type 0 where
+  pub planes : Pair p n w m
+  pub down : y < blocksDown p
+  pub start-is : start ≡ blocksStart p y
+  pub start2-is : start2 ≡ blocksStart w y
+  pub first : start + p .width ≤ n
+  pub second : start2 + w .width ≤ m
+  pub costs : y * blocksAcross p + blocksAcross p ≤ room
+
+module _ (p : Plane) (n : ℕ) (w : Plane) (m room y start start2 : ℕ) where
+  pub row-lies : sizesFault p n w m ≡ 0 → blockCount p ≤ room → y < blocksDown p → start ≡ blockRow p n y → start2 ≡ blockRow w m y → RowIn p n w m room y start start2
+  row-lies e r d f g =
+      let h = pair p n w m e in
+      let a : start ≡ blocksStart p y = f ∙ row-starts p n y (h .first) d in
+      let b : start2 ≡ blocksStart w y = g ∙ row-starts w m y (h .second) (omega arith) in
+      record {
+        planes = h;
+        down = d;
+        start-is = a;
+        start2-is = b;
+        first = omega (arith, row-in p n (y * blockSide) (h .first) (omega arith));
+        second = omega (arith, row-in w m (y * blockSide) (h .second) (omega arith));
+        costs = omega (arith, mul-le-mul-right (blocksAcross p) d, suc-mul y (blocksAcross p));
+      }
+
+  -- block x lies within the samples of both; those of the work plane a loop has written
+  module _ (r : RowIn p n w m room y start start2) (x : ℕ) (h : x < blocksAcross p) where
+    pub block-lies : SquareIn (start + x * blockSide) (p .stride) n
+    block-lies = record { rows = λ j j<. omega (arith, block-in p n y x j (r .planes .first) (r .down) h j<) }
+
+    pub work-lies : (now : ℕ) → now ≡ m → SquareIn (start2 + x * blockSide) (w .stride) now
+    work-lies now e =
+        let down : y < blocksDown w = omega arith in
+        let across : x < blocksAcross w = omega arith in
+        record { rows = λ j j<. omega (arith, e, block-in w m y x j (r .planes .second) down across j<) }
+
+-- ---- the refusals in order, and what a call that is not refused keeps to
+
+module _ (depth : ℕ) (p : Plane) (s : List ℕ) (w : Plane) (work : List ℕ) (room : ℕ) where
+  pub planes-refused : (r : ℕ) → r ≡ pairFault depth p s w work → (r ≡ 0 → ⊥) → r ≡ intraFault depth p s w work room
+  unfolding intraFault
+  planes-refused r e h = or-given r _ _ e h
+
+  pub no-room : 0 ≡ pairFault depth p s w work → room < blockCount p → 4 ≡ intraFault depth p s w work room
+  unfolding intraFault
+  no-room e h = or-later 4 _ _ e (test-given 4 _ (lt-ltb room (blockCount p) h))
+
+  pub room-enough : 0 ≡ pairFault depth p s w work → blockCount p ≤ room → 0 ≡ intraFault depth p s w work room
+  unfolding intraFault
+  room-enough e h = or-later 0 _ _ e (test-passed 4 _ (le-ltb room (blockCount p) h))
+
+  pub fine : intraFault depth p s w work room ≡ 0 → (sizesFault p (length s) w (length work) ≡ 0) × (blockCount p ≤ room)
+  unfolding intraFault
+  fine e =
+      let t = or-none (pairFault depth p s w work) (refusal 4 (ltb room (blockCount p))) e in
+      (measured depth p s w work (t .0), ltb-false room (blockCount p) (passed 3 (ltb room (blockCount p)) (t .1)))
+
+  -- the block count of planes that are not refused, and so the answer
+  pub count-fits : pairFault depth p s w work ≡ 0 → blockCount p ≤ maxSide * maxSide
+  count-fits e = count-most p (length s) (pair p (length s) w (length work) (measured depth p s w work e) .first)
+
+  pub blocks-most : intraFault depth p s w work room ≡ 0 → blockCount p ≤ maxSide * maxSide
+  blocks-most e = count-most p (length s) (pair p (length s) w (length work) (fine e .0) .first)

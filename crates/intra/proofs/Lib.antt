@@ -1,3 +1,4 @@
+pub mod Wrote
 pub mod FillLaws
 pub mod CostLaws
 pub mod Unique

@@ -1,56 +1,48 @@
 -- Document 01, "Intra cost": the costs of the whole blocks, and what the lent places hold afterwards.
-use Prim.Native.Nat.{ℕ, _+_, _*_, _/_, _%_}
+use Prim.Native.Nat.{ℕ, _/_, _%_}
 use mathlib.Core.List.{List}
 use lib.Dec.{ltb}
-use lib.ListN.{length, getD, replicate}
+use lib.ListN.{length, replicate}
 use Rattle.answer.specs.Answer.{Answer, answered, lentAfter}
 use Rattle.answer.specs.Refusal.{refusal, _orElse_}
 use Rattle.plane.specs.Blocks.{blockSide, blocksAcross, blockCount, blockSample}
 use Rattle.plane.specs.Planes.{pairFault}
 use Rattle.plane.specs.declared.Plane.{Plane}
-use Rattle.satd.specs.Satd.{satdValue}
+use Rattle.satd.specs.Satd.{blockSize, satdValue}
 use Rattle.sums.specs.Table.{table}
 use Rattle.sums.specs.Written.{written}
-use Rattle.intra.specs.Fill.{flat, workAfter}
-
--- the samples of a block
-abbrev pub blockSize : ℕ
-blockSize = blockSide * blockSide
+use Rattle.intra.specs.Fill.{flatSample, workAfter}
 
 -- block (x, y), row by row
 abbrev pub blockOf : Plane → List ℕ → ℕ → ℕ → List ℕ
 blockOf p s y x = table blockSize (λ (t : ℕ). blockSample p s y x (t / blockSide) (t % blockSide))
 
 -- its prediction, which is flat
-unfoldable pub prediction : List ℕ
-prediction = replicate blockSize flat
+unfoldable pub prediction : ℕ → List ℕ
+prediction flat = replicate blockSize flat
 
 -- its cost: the SATD of the block against its prediction
-abbrev pub blockCost : Plane → List ℕ → ℕ → ℕ → ℕ
-blockCost p s y x = satdValue (blockOf p s y x) prediction
+abbrev pub blockCost : ℕ → Plane → List ℕ → ℕ → ℕ → ℕ
+blockCost flat p s y x = satdValue (blockOf p s y x) (prediction flat)
 
 -- "row order": block k stands in row k / across, column k % across
-abbrev pub costAt : Plane → List ℕ → ℕ → ℕ
-costAt p s k = blockCost p s (k / blocksAcross p) (k % blocksAcross p)
+abbrev pub costAt : ℕ → Plane → List ℕ → ℕ → ℕ
+costAt flat p s k = blockCost flat p s (k / blocksAcross p) (k % blocksAcross p)
 
 -- "Costs go to a lent u32 list in row order, its rest unchanged."
-abbrev pub costsAfter : Plane → List ℕ → List ℕ → List ℕ
-costsAfter p s costs = written (λ (k : ℕ). ltb k (blockCount p)) (costAt p s) costs
+abbrev pub costsAfter : ℕ → Plane → List ℕ → List ℕ → List ℕ
+costsAfter flat p s costs = written (λ (k : ℕ). ltb k (blockCount p)) (costAt flat p s) costs
 
 -- 5, the plane's 1 and 2, the work plane's 1 and 2, 3, and 4: "cost list shorter than the block count"
-unfoldable pub intraFault : ℕ → Plane → ℕ → Plane → ℕ → ℕ → ℕ
-intraFault depth p n w m room = pairFault depth p n w m orElse refusal 4 (ltb room (blockCount p))
+unfoldable pub intraFault : ℕ → Plane → List ℕ → Plane → List ℕ → ℕ → ℕ
+intraFault depth p s w work room = pairFault depth p s w work orElse refusal 4 (ltb room (blockCount p))
 
 -- the answer, the number of blocks; and the lent places: where it is refused, as they were
 abbrev pub intraOf : ℕ → Plane → List ℕ → Plane → List ℕ → List ℕ → Answer ℕ
-intraOf depth p s w work costs = answered (intraFault depth p (length s) w (length work) (length costs)) (blockCount p)
+intraOf depth p s w work costs = answered (intraFault depth p s w work (length costs)) (blockCount p)
 
 abbrev pub workOf : ℕ → Plane → List ℕ → Plane → List ℕ → List ℕ → List ℕ
-workOf depth p s w work costs = lentAfter (intraFault depth p (length s) w (length work) (length costs)) (workAfter w work) work
+workOf depth p s w work costs = lentAfter (intraFault depth p s w work (length costs)) (workAfter flatSample w work) work
 
 abbrev pub costsOf : ℕ → Plane → List ℕ → Plane → List ℕ → List ℕ → List ℕ
-costsOf depth p s w work costs = lentAfter (intraFault depth p (length s) w (length work) (length costs)) (costsAfter p s costs) costs
-
--- the same by places, for the private functions: a block's samples from `start` on
-abbrev pub squareAt : List ℕ → ℕ → ℕ → ℕ → ℕ
-squareAt s start stride t = getD s (start + t / blockSide * stride + t % blockSide) 0
+costsOf depth p s w work costs = lentAfter (intraFault depth p s w work (length costs)) (costsAfter flatSample p s costs) costs

@@ -8,9 +8,9 @@ use Rattle.plane.specs.declared.Plane.{Plane}
 use Rattle.sums.specs.Any.{anyBelow}
 use Rattle.sums.specs.Written.{written}
 
--- "flat 128"
-abbrev pub flat : ℕ
-flat = 128
+-- "flat 128": what samples of 8 bits are predicted to be
+abbrev pub flatSample : ℕ
+flatSample = 128
 
 -- place k is one of the n places from `start` on
 abbrev pub inRun : ℕ → ℕ → ℕ → Bool
@@ -21,10 +21,10 @@ unfoldable pub inRows : ℕ → ℕ → ℕ → ℕ → ℕ → Bool
 inRows start stride m n k = anyBelow m (λ (j : ℕ). inRun (start + j * stride) n k)
 
 -- those rows filled flat; every other place stays
-abbrev pub filled : ℕ → ℕ → ℕ → ℕ → List ℕ → List ℕ
-filled start stride m n s = written (inRows start stride m n) (λ (k : ℕ). flat) s
+abbrev pub filled : ℕ → ℕ → ℕ → ℕ → ℕ → List ℕ → List ℕ
+filled flat start stride m n s = written (inRows start stride m n) (λ (k : ℕ). flat) s
 
 -- "In the lent work plane each block's eight rows are filled from its own column onward, eight samples of 128 in each row; samples outside
 -- whole blocks stay." The whole blocks cover this many rows and columns from the origin on.
-abbrev pub workAfter : Plane → List ℕ → List ℕ
-workAfter w s = filled (w .origin) (w .stride) (blocksDown w * blockSide) (blocksAcross w * blockSide) s
+abbrev pub workAfter : ℕ → Plane → List ℕ → List ℕ
+workAfter flat w s = filled flat (w .origin) (w .stride) (blocksDown w * blockSide) (blocksAcross w * blockSide) s

@@ -1,45 +1,44 @@
 // Intra costs: `estimate_intra_costs` of analyze/intra.rs, with the flat prediction of intra/rust.rs.
 use answer::Whole;
+use plane::BLOCK_SIDE;
 use plane::Plane;
 ghost use mathlib.Core.Path.{_≡_};
-ghost use Prim.Native.Nat.{ℕ, _+_, _*_, _≤_, _<_};
+ghost use Prim.Native.Nat.{ℕ, _*_, _≤_, _<_};
 ghost use lib.Dec.{ltb};
 ghost use lib.ListN.{length, getD};
 ghost use Rattle.answer.specs.Answer.{wholeAnswer};
-ghost use Rattle.plane.specs.Blocks.{blockSide, blocksAcross, blocksDown, blockCount};
+ghost use Rattle.plane.specs.Blocks.{blockSide, blocksAcross, blocksDown, blockCount, blocksStart};
 ghost use Rattle.plane.specs.Planes.{sizesFault};
-ghost use Rattle.satd.specs.Satd.{satdValue};
-ghost use Rattle.sums.specs.Table.{table};
+ghost use Rattle.satd.specs.Satd.{blockSize};
 ghost use Rattle.sums.specs.Written.{written};
-ghost use Rattle.intra.specs.Fill.{flat, inRun, filled, workAfter};
-ghost use Rattle.intra.specs.Costs.{blockSize, costAt, costsAfter, intraFault, intraOf, workOf, costsOf, prediction, squareAt};
+ghost use Rattle.intra.specs.Fill.{inRun, filled, workAfter};
+ghost use Rattle.intra.specs.Costs.{costAt, costsAfter, intraFault, intraOf, workOf, costsOf};
+ghost use Rattle.intra.specs.Needs.{SquareIn, squareOf, squareCost};
 
 pub mod standard;
 
-// The side of a block, its samples, and the flat prediction.
-const SIDE: usize = 8;
-
+// The flat prediction of samples of 8 bits.
 const FLAT: u8 = 128;
 
 // Eight flat samples from the start of a part on.
-fn fill_row(part: &mut [u8])
+fn fill_row(part: &mut [u8], flat: u8)
     requires { ⌜ blockSide ≤ length (now part) ⌝ }
     ensures { λ _. ⌜ now (part .exit) ≡ written (λ (k : ℕ). ltb k blockSide) (λ (k : ℕ). flat) (now (part .entry)) ⌝ }
 {
-    for x in 0..SIDE {
-        part[x] = FLAT;
+    for x in 0..BLOCK_SIDE {
+        part[x] = flat;
     }
 }
 
 // The eight rows of a block that starts at a place of the work plane, each from the block's own column onward:
 // `pred_dc_128`.
-fn fill_block(work: &mut [u8], start: usize, stride: usize)
-    requires { ⌜ ((j : ℕ) → j < blockSide → start + j * stride + blockSide ≤ length (now work)) ⌝ }
-    ensures { λ _. ⌜ now (work .exit) ≡ filled start stride blockSide blockSide (now (work .entry)) ⌝ }
+fn fill_block(work: &mut [u8], start: usize, stride: usize, flat: u8)
+    requires { ⌜ SquareIn start stride (length (now work)) ⌝ }
+    ensures { λ _. ⌜ now (work .exit) ≡ filled flat start stride blockSide blockSide (now (work .entry)) ⌝ }
 {
-    for y in 0..SIDE {
+    for y in 0..BLOCK_SIDE {
         let i = start + y * stride;
-        fill_row(&mut work[i..]);
+        fill_row(&mut work[i..], flat);
     }
 }
 
@@ -49,7 +48,7 @@ fn copy_row(to: &mut [u8], from: &[u8])
     requires { ⌜ blockSide ≤ length (now from) ⌝ }
     ensures { λ _. ⌜ now (to .exit) ≡ written (λ (k : ℕ). ltb k blockSide) (λ (k : ℕ). getD (now (from .entry)) k 0) (now (to .entry)) ⌝ }
 {
-    for x in 0..SIDE {
+    for x in 0..BLOCK_SIDE {
         to[x] = from[x];
     }
 }
@@ -57,24 +56,24 @@ fn copy_row(to: &mut [u8], from: &[u8])
 // The samples of the block that starts at a place, row by row.
 fn load_block(block: &mut [u8], s: &[u8], start: usize, stride: usize)
     requires { ⌜ length (now block) ≡ blockSize ⌝ }
-    requires { ⌜ ((j : ℕ) → j < blockSide → start + j * stride + blockSide ≤ length (now s)) ⌝ }
-    ensures { λ _. ⌜ now (block .exit) ≡ table blockSize (squareAt (now (s .entry)) start stride) ⌝ }
+    requires { ⌜ SquareIn start stride (length (now s)) ⌝ }
+    ensures { λ _. ⌜ now (block .exit) ≡ squareOf (now (s .entry)) start stride ⌝ }
 {
-    for j in 0..SIDE {
-        let at = j * SIDE;
+    for j in 0..BLOCK_SIDE {
+        let at = j * BLOCK_SIDE;
         let i = start + j * stride;
         copy_row(&mut block[at..], &s[i..]);
     }
 }
 
 // The SATD of the block that starts at a place against the flat prediction.
-fn block_cost(s: &[u8], start: usize, stride: usize) -> u32
-    requires { ⌜ ((j : ℕ) → j < blockSide → start + j * stride + blockSide ≤ length (now s)) ⌝ }
-    ensures { λ r. ⌜ r ≡ satdValue (table blockSize (squareAt (now (s .entry)) start stride)) prediction ⌝ }
+fn block_cost(s: &[u8], start: usize, stride: usize, flat: u8) -> u32
+    requires { ⌜ SquareIn start stride (length (now s)) ⌝ }
+    ensures { λ r. ⌜ r ≡ squareCost flat (now (s .entry)) start stride ⌝ }
 {
     let mut block = [0u8; 64];
     load_block(&mut block[..], s, start, stride);
-    let prediction = [FLAT; 64];
+    let prediction = [flat; 64];
     let Whole::Number(cost) = satd::satd8x8(&block[..], &prediction[..]) else {
         return 0;
     };
@@ -82,46 +81,46 @@ fn block_cost(s: &[u8], start: usize, stride: usize) -> u32
 }
 
 // Row y of blocks: each block of the work plane is filled, and its cost goes to its place in the list.
-fn costs_row(p: Plane, s: &[u8], w: Plane, work: &mut [u8], costs: &mut [u32], y: usize)
+fn costs_row(p: Plane, s: &[u8], w: Plane, work: &mut [u8], costs: &mut [u32], y: usize, flat: u8)
     requires { ⌜ sizesFault p (length (now s)) w (length (now work)) ≡ 0 ⌝ }
     requires { ⌜ blockCount p ≤ length (now costs) ⌝ }
     requires { ⌜ y < blocksDown p ⌝ }
-    ensures { λ _. ⌜ now (work .exit) ≡ filled (w .origin + y * blockSide * w .stride) (w .stride) blockSide (blocksAcross w * blockSide) (now (work .entry)) ⌝ }
-    ensures { λ _. ⌜ now (costs .exit) ≡ written (inRun (y * blocksAcross p) (blocksAcross p)) (costAt p (now (s .entry))) (now (costs .entry)) ⌝ }
+    ensures { λ _. ⌜ now (work .exit) ≡ filled flat (blocksStart w y) (w .stride) blockSide (blocksAcross w * blockSide) (now (work .entry)) ⌝ }
+    ensures { λ _. ⌜ now (costs .exit) ≡ written (inRun (y * blocksAcross p) (blocksAcross p)) (costAt flat p (now (s .entry))) (now (costs .entry)) ⌝ }
 {
     let stride = p.stride;
     let stride2 = w.stride;
-    let across = p.width / SIDE;
-    let start = p.origin + y * SIDE * stride;
-    let start2 = w.origin + y * SIDE * stride2;
+    let across = p.width / BLOCK_SIDE;
+    let start = p.block_row(s.len(), y);
+    let start2 = w.block_row(work.len(), y);
     let first = y * across;
     for x in 0..across {
-        fill_block(work, start2 + x * SIDE, stride2);
-        costs[first + x] = block_cost(s, start + x * SIDE, stride);
+        fill_block(work, start2 + x * BLOCK_SIDE, stride2, flat);
+        costs[first + x] = block_cost(s, start + x * BLOCK_SIDE, stride, flat);
     }
 }
 
 // All whole blocks of a plane and a work plane that are not refused.
-fn all_costs(p: Plane, s: &[u8], w: Plane, work: &mut [u8], costs: &mut [u32])
+fn all_costs(p: Plane, s: &[u8], w: Plane, work: &mut [u8], costs: &mut [u32], flat: u8)
     requires { ⌜ sizesFault p (length (now s)) w (length (now work)) ≡ 0 ⌝ }
     requires { ⌜ blockCount p ≤ length (now costs) ⌝ }
-    ensures { λ _. ⌜ now (work .exit) ≡ workAfter w (now (work .entry)) ⌝ }
-    ensures { λ _. ⌜ now (costs .exit) ≡ costsAfter p (now (s .entry)) (now (costs .entry)) ⌝ }
+    ensures { λ _. ⌜ now (work .exit) ≡ workAfter flat w (now (work .entry)) ⌝ }
+    ensures { λ _. ⌜ now (costs .exit) ≡ costsAfter flat p (now (s .entry)) (now (costs .entry)) ⌝ }
 {
-    for y in 0..p.height / SIDE {
-        costs_row(p, s, w, work, costs, y);
+    for y in 0..p.height / BLOCK_SIDE {
+        costs_row(p, s, w, work, costs, y, flat);
     }
 }
 
 // The refusal of intra costs, or 0: of the depth and the two planes, and 4 for a list with no room for the costs.
-fn intra_fault(depth: u64, p: Plane, n: usize, w: Plane, m: usize, room: usize) -> u32
-    ensures { λ r. ⌜ r ≡ intraFault depth p n w m room ⌝ }
+fn intra_fault(depth: u64, p: Plane, s: &[u8], w: Plane, work: &[u8], room: usize) -> u32
+    ensures { λ r. ⌜ r ≡ intraFault depth p (now (s .entry)) w (now (work .entry)) room ⌝ }
 {
-    let fault = plane::pair_fault(depth, p, n, w, m);
+    let fault = plane::pair_fault(depth, p, s, w, work);
     if fault != 0 {
         return fault;
     }
-    if room < (p.height / SIDE) * (p.width / SIDE) {
+    if room < (p.height / BLOCK_SIDE) * (p.width / BLOCK_SIDE) {
         return 4;
     }
     0
@@ -141,10 +140,10 @@ pub fn estimate_intra_costs(
     ensures { λ _. ⌜ now (work .exit) ≡ workOf depth p (now (s .entry)) w (now (work .entry)) (now (costs .entry)) ⌝ }
     ensures { λ _. ⌜ now (costs .exit) ≡ costsOf depth p (now (s .entry)) w (now (work .entry)) (now (costs .entry)) ⌝ }
 {
-    let fault = intra_fault(depth, p, s.len(), w, work.len(), costs.len());
+    let fault = intra_fault(depth, p, s, w, work, costs.len());
     if fault != 0 {
         return Whole::Refused(fault);
     }
-    all_costs(p, s, w, work, costs);
-    Whole::Number(((p.height / SIDE) * (p.width / SIDE)) as u64)
+    all_costs(p, s, w, work, costs, FLAT);
+    Whole::Number(((p.height / BLOCK_SIDE) * (p.width / BLOCK_SIDE)) as u64)
 }

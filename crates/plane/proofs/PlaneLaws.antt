@@ -10,9 +10,9 @@ use lib.ListN.{length, getD, take, drop, length-take, length-drop}
 use lib.Seq.{getD-take, getD-drop}
 use borrow.Author.Tests.{lt-ltb, le-ltb, le-leb, lt-leb, ltb-false, leb-true, leb-false, eqb-true, eqb-false, not-false}
 use Rattle.answer.specs.Refusal.{refusal, _orElse_}
-use Rattle.answer.proofs.Laws.{or-none, passed}
+use Rattle.answer.proofs.Laws.{or-none, passed, test-given, test-first, test-passed, test-later}
 use Rattle.plane.specs.declared.Plane.{Plane}
-use Rattle.plane.specs.Planes.{sampleAt, rowEnd, rowOf, maxSide, badSide, badShape, pastSamples, sizesDiffer, planeFault, sizesFault, depthFault, pairFault}
+use Rattle.plane.specs.Planes.{sampleAt, rowEnd, rowOf, maxSide, badSide, badPlane, pastSamples, sizesDiffer, planeFault, sizesFault, byteFault, pairFault}
 
 -- ---- tests
 
@@ -50,17 +50,17 @@ room-left strides origin width n h k =
 -- ---- one plane: its refusals in order
 
 module _ (p : Plane) (n : ℕ) where
-  pub fault-shape : badShape p ≡ true → 1 ≡ planeFault p n
-  unfolding planeFault _orElse_
-  fault-shape e = rw e
+  pub fault-shape : badPlane p ≡ true → 1 ≡ planeFault p n
+  unfolding planeFault
+  fault-shape e = test-first 0 _ _ e
 
-  pub fault-short : badShape p ≡ false → leb (rowEnd p (p .height - 1)) n ≡ false → 2 ≡ planeFault p n
-  unfolding planeFault pastSamples _orElse_
-  fault-short e l = rw (e, lt-ltb n (rowEnd p (p .height - 1)) (leb-false _ _ l))
+  pub fault-short : badPlane p ≡ false → leb (rowEnd p (p .height - 1)) n ≡ false → 2 ≡ planeFault p n
+  unfolding planeFault pastSamples
+  fault-short e l = test-later _ _ _ _ e (test-given _ _ (lt-ltb n (rowEnd p (p .height - 1)) (leb-false _ _ l)))
 
-  pub fault-none : badShape p ≡ false → leb (rowEnd p (p .height - 1)) n ≡ true → 0 ≡ planeFault p n
-  unfolding planeFault pastSamples _orElse_
-  fault-none e l = rw (e, le-ltb n (rowEnd p (p .height - 1)) (leb-true _ _ l))
+  pub fault-none : badPlane p ≡ false → leb (rowEnd p (p .height - 1)) n ≡ true → 0 ≡ planeFault p n
+  unfolding planeFault pastSamples
+  fault-none e l = test-later _ _ _ _ e (test-passed _ _ (le-ltb n (rowEnd p (p .height - 1)) (leb-true _ _ l)))
 
 -- what a plane keeps to that is not refused over n samples
 pub record Lies (p : Plane) (n : ℕ) : Type 0 where
@@ -77,8 +77,8 @@ side n e =
     let t = or-false (eqb n 0) (ltb maxSide n) e in
     (pos-of-ne-zero (eqb-false n 0 (t .0)), ltb-false maxSide n (t .1))
 
-pub shape : (p : Plane) → badShape p ≡ false → ((0 < p .width) × (p .width ≤ maxSide)) × ((0 < p .height) × (p .height ≤ maxSide)) × (p .width ≤ p .stride)
-unfolding badShape
+pub shape : (p : Plane) → badPlane p ≡ false → ((0 < p .width) × (p .width ≤ maxSide)) × ((0 < p .height) × (p .height ≤ maxSide)) × (p .width ≤ p .stride)
+unfolding badPlane
 shape p e =
     let t = or-false (badSide (p .width) || badSide (p .height)) (ltb (p .stride) (p .width)) e in
     let u = or-false (badSide (p .width)) (badSide (p .height)) (t .0) in
@@ -87,8 +87,8 @@ shape p e =
 pub lies : (p : Plane) (n : ℕ) → planeFault p n ≡ 0 → Lies p n
 unfolding planeFault pastSamples
 lies p n e =
-    let t = or-none (refusal 1 (badShape p)) (refusal 2 (pastSamples p n)) e in
-    let s = shape p (passed 0 (badShape p) (t .0)) in
+    let t = or-none (refusal 1 (badPlane p)) (refusal 2 (pastSamples p n)) e in
+    let s = shape p (passed 0 (badPlane p) (t .0)) in
     record {
       some-width = s .0 .0;
       width-most = s .0 .1;
@@ -140,9 +140,15 @@ pair p n q m e =
     }
 
 -- a measure that is not refused has two such planes
-pub measured : (depth : ℕ) (p : Plane) (n : ℕ) (q : Plane) (m : ℕ) → pairFault depth p n q m ≡ 0 → sizesFault p n q m ≡ 0
+pub measured : (depth : ℕ) (p : Plane) (a : List ℕ) (q : Plane) (b : List ℕ) → pairFault depth p a q b ≡ 0 → sizesFault p (length a) q (length b) ≡ 0
 unfolding pairFault
-measured depth p n q m e = or-none (depthFault depth) (sizesFault p n q m) e .1
+measured depth p a q b e = or-none (byteFault depth) (sizesFault p (length a) q (length b)) e .1
+
+-- the refusal of two planes looks at the lengths alone
+pub pair-lengths : (depth : ℕ) (p : Plane) (a a′ : List ℕ) (q : Plane) (b b′ : List ℕ)
+    → length a ≡ length a′ → length b ≡ length b′ → pairFault depth p a q b ≡ pairFault depth p a′ q b′
+unfolding pairFault
+pair-lengths depth p a a′ q b b′ e d = rw (e, d)
 
 -- a plane's total, at samples of 8 bits as of 16: any integer of 64 bits holds it, a signed one too
 pub total-fits : (n w k : ℕ) → n ≤ maxSide → w ≤ maxSide → k < 2 ^ 16 → n * (w * k) < 2 ^ 42

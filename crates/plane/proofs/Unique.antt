@@ -11,6 +11,8 @@ use Rattle.plane.proofs.Plane.fault.Kinds as fault-kinds
 use Rattle.plane.proofs.Plane.fault.Reads as fault-reads
 use Rattle.plane.proofs.Plane.row.Kinds as row-kinds
 use Rattle.plane.proofs.Plane.row.Reads as row-reads
+use Rattle.plane.proofs.Plane.block_row.Kinds as block-row-kinds
+use Rattle.plane.proofs.Plane.block_row.Reads as block-row-reads
 use Rattle.plane.proofs.depth_fault.Kinds as depth-fault-kinds
 use Rattle.plane.proofs.depth_fault.Reads as depth-fault-reads
 use Rattle.plane.proofs.pair_fault.Kinds as pair-fault-kinds
@@ -26,8 +28,11 @@ fault-unique κs a r r′ e e′ p q = p ∙ sym q
 pub row-unique : OneOutcome 1 row-kinds.ps row-kinds.r (List ℕ) (λ κs r e. now r) row-reads.Post
 row-unique κs a r r′ e e′ p q = p ∙ sym q
 
+pub block-row-unique : OneOutcome 0 block-row-kinds.ps block-row-kinds.r ℕ (λ κs r e. r) block-row-reads.Post
+block-row-unique κs a r r′ e e′ p q = p ∙ sym q
+
 pub depth-fault-unique : OneOutcome 0 depth-fault-kinds.ps depth-fault-kinds.r ℕ (λ κs r e. r) depth-fault-reads.Post
 depth-fault-unique κs a r r′ e e′ p q = p ∙ sym q
 
-pub pair-fault-unique : OneOutcome 0 pair-fault-kinds.ps pair-fault-kinds.r ℕ (λ κs r e. r) pair-fault-reads.Post
+pub pair-fault-unique : OneOutcome 2 pair-fault-kinds.ps pair-fault-kinds.r ℕ (λ κs r e. r) pair-fault-reads.Post
 pair-fault-unique κs a r r′ e e′ p q = p ∙ sym q

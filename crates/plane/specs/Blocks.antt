@@ -1,8 +1,10 @@
 -- Document 01, "Importance" and "Intra cost": the whole 8×8 blocks of a plane. Block (x, y) is in row y of blocks and column x.
 use Prim.Native.Nat.{ℕ, _+_, _*_, _/_}
+use mathlib.Core.Bool.{_&&_, cond}
 use mathlib.Core.List.{List}
+use lib.Dec.{ltb, leb}
 use Rattle.plane.specs.declared.Plane.{Plane}
-use Rattle.plane.specs.Planes.{sampleAt}
+use Rattle.plane.specs.Planes.{sampleAt, rowEnd}
 
 abbrev pub blockSide : ℕ
 blockSide = 8
@@ -21,6 +23,13 @@ blockCount p = blocksDown p * blocksAcross p
 abbrev pub blockSample : Plane → List ℕ → ℕ → ℕ → ℕ → ℕ → ℕ
 blockSample p s y x j i = sampleAt p s (y * blockSide + j) (x * blockSide + i)
 
--- where block (x, y) starts, counted from the first lent sample
+-- where row y of blocks starts, counted from the first lent sample, and block (x, y)
+abbrev pub blocksStart : Plane → ℕ → ℕ
+blocksStart p y = p .origin + y * blockSide * p .stride
+
 abbrev pub blockStart : Plane → ℕ → ℕ → ℕ
-blockStart p y x = p .origin + y * blockSide * p .stride + x * blockSide
+blockStart p y x = blocksStart p y + x * blockSide
+
+-- where row y of blocks starts over n samples; n where there is no such row, or where it does not start within them
+unfoldable pub blockRow : Plane → ℕ → ℕ → ℕ
+blockRow p n y = cond (ltb y (blocksDown p) && leb (rowEnd p (y * blockSide)) n) (blocksStart p y) n

@@ -4,6 +4,7 @@ use mathlib.Core.Bool.{Bool, not, _||_, cond}
 use mathlib.Core.List.{List, []}
 use lib.ListN.{length, getD, take, drop}
 use lib.Dec.{ltb, leb, eqb}
+use Rattle.answer.specs.Answer.{Answer, answered}
 use Rattle.answer.specs.Refusal.{refusal, _orElse_}
 use Rattle.plane.specs.declared.Plane.{Plane}
 
@@ -31,8 +32,8 @@ unfoldable pub badSide : ℕ → Bool
 badSide n = eqb n 0 || ltb maxSide n
 
 -- 1: "a side is 0 or above 8,192, or stride below width"
-unfoldable pub badShape : Plane → Bool
-badShape p = badSide (p .width) || badSide (p .height) || ltb (p .stride) (p .width)
+unfoldable pub badPlane : Plane → Bool
+badPlane p = badSide (p .width) || badSide (p .height) || ltb (p .stride) (p .width)
 
 -- 2: "origin + (height − 1) × stride + width exceeds the samples", of which there are n
 unfoldable pub pastSamples : Plane → ℕ → Bool
@@ -44,16 +45,24 @@ sizesDiffer p q = not (eqb (p .width) (q .width)) || not (eqb (p .height) (q .he
 
 -- one plane over n samples
 unfoldable pub planeFault : Plane → ℕ → ℕ
-planeFault p n = refusal 1 (badShape p) orElse refusal 2 (pastSamples p n)
+planeFault p n = refusal 1 (badPlane p) orElse refusal 2 (pastSamples p n)
 
 -- "Two planes: the first plane's 1 and 2, then the second's", and 3
 unfoldable pub sizesFault : Plane → ℕ → Plane → ℕ → ℕ
 sizesFault p n q m = planeFault p n orElse planeFault q m orElse refusal 3 (sizesDiffer p q)
 
--- 5: "depth isn't 8"
+-- 5: "depth isn't 8", of a detector's settings
 unfoldable pub depthFault : ℕ → ℕ
 depthFault depth = refusal 5 (not (eqb depth 8))
 
--- a measure of two planes: 5 comes before 1
-unfoldable pub pairFault : ℕ → Plane → ℕ → Plane → ℕ → ℕ
-pairFault depth p n q m = depthFault depth orElse sizesFault p n q m
+-- 5, of planes whose samples are bytes: a byte has 8 bits
+unfoldable pub byteFault : ℕ → ℕ
+byteFault depth = refusal 5 (not (eqb depth 8))
+
+-- two planes over the lent samples a and b: 5 comes before 1
+unfoldable pub pairFault : ℕ → Plane → List ℕ → Plane → List ℕ → ℕ
+pairFault depth p a q b = byteFault depth orElse sizesFault p (length a) q (length b)
+
+-- what a measure of two planes answers: refused, or this value
+abbrev pub pairAnswer : {A : Type 0} → ℕ → Plane → List ℕ → Plane → List ℕ → A → Answer A
+pairAnswer depth p a q b value = answered (pairFault depth p a q b) value

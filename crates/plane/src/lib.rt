@@ -2,13 +2,19 @@
 ghost use mathlib.Core.Path.{_≡_};
 ghost use Prim.Native.Nat.{_*_};
 ghost use lib.Dec.{leb};
-ghost use Rattle.plane.specs.Planes.{badSide, rowEnd, rowOf, planeFault, sizesFault, depthFault, pairFault};
+ghost use Rattle.plane.specs.Blocks.{blockRow};
+ghost use Rattle.plane.specs.Planes.{badSide, rowEnd, rowOf, planeFault, sizesFault, depthFault, byteFault, pairFault};
 
 // The largest side, of a plane as of a resolution.
 const MAX_SIDE: usize = 8192;
 
-// The only depth so far.
+// The only depth that a detector may have so far, and the depth of samples that are bytes.
 const DEPTH: u64 = 8;
+
+const BYTE_DEPTH: u64 = 8;
+
+// The side of a block.
+pub const BLOCK_SIDE: usize = 8;
 
 // A plane over lent samples: sample (x, y) is at origin + y * stride + x.
 pub struct Plane {
@@ -86,13 +92,35 @@ impl Plane {
         }
         &s[0..0]
     }
+
+    // Where row y of blocks starts over n samples, or n where there is no such row. Block x starts x * BLOCK_SIDE further on.
+    pub fn block_row(self, n: usize, y: usize) -> usize
+        ensures { λ r. ⌜ r ≡ blockRow self n y ⌝ }
+    {
+        let stride = self.stride;
+        let origin = self.origin;
+        if y < self.height / BLOCK_SIDE {
+            let row = y * BLOCK_SIDE;
+            if self.row_lies(n, row) {
+                return origin + row * stride;
+            }
+        }
+        n
+    }
 }
 
-// Refusal 5, for a depth other than 8, or 0.
+// Refusal 5 of a detector's depth, or 0.
 pub fn depth_fault(depth: u64) -> u32
     ensures { λ r. ⌜ r ≡ depthFault depth ⌝ }
 {
     if depth == DEPTH { 0 } else { 5 }
+}
+
+// Refusal 5 of a depth that samples of a byte do not have, or 0.
+fn byte_fault(depth: u64) -> u32
+    ensures { λ r. ⌜ r ≡ byteFault depth ⌝ }
+{
+    if depth == BYTE_DEPTH { 0 } else { 5 }
 }
 
 // The refusal of two planes over n and m samples, or 0: 1 and 2 of the first, 1 and 2 of the second, and 3 where their
@@ -114,13 +142,13 @@ fn sizes_fault(p: Plane, n: usize, q: Plane, m: usize) -> u32
     0
 }
 
-// The refusal of a measure of two planes, or 0: of the depth first, then of the planes.
-pub fn pair_fault(depth: u64, p: Plane, n: usize, q: Plane, m: usize) -> u32
-    ensures { λ r. ⌜ r ≡ pairFault depth p n q m ⌝ }
+// The refusal of a measure of two planes over their lent samples, or 0: of the depth first, then of the planes.
+pub fn pair_fault(depth: u64, p: Plane, a: &[u8], q: Plane, b: &[u8]) -> u32
+    ensures { λ r. ⌜ r ≡ pairFault depth p (now (a .entry)) q (now (b .entry)) ⌝ }
 {
-    let fault = depth_fault(depth);
+    let fault = byte_fault(depth);
     if fault != 0 {
         return fault;
     }
-    sizes_fault(p, n, q, m)
+    sizes_fault(p, a.len(), q, b.len())
 }

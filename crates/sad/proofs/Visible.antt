@@ -7,8 +7,8 @@ use lib.ListN.{length}
 use Rattle.answer.specs.Answer.{answered}
 use Rattle.answer.proofs.Laws.{answer-same}
 use Rattle.plane.specs.declared.Plane.{Plane}
-use Rattle.plane.specs.Planes.{sampleAt, pairFault, sizesFault}
-use Rattle.plane.proofs.PlaneLaws.{measured, pair}
+use Rattle.plane.specs.Planes.{sampleAt, sizesFault, pairAnswer}
+use Rattle.plane.proofs.PlaneLaws.{measured, pair, pair-lengths}
 use Rattle.sums.specs.Quotient.{quotientOf}
 use Rattle.sums.specs.Sums.{apart}
 use Rattle.sums.proofs.SumLaws.{sum-ext}
@@ -32,11 +32,10 @@ module _ (depth : ℕ) (p : Plane) (a a′ : List ℕ) (q : Plane) (b b′ : Lis
 
   -- and the refusals look at the lengths alone
   any-alike : {A : Type 0} (of : ℕ → A)
-      → answered (pairFault depth p (length a) q (length b)) (of (planeSad p a q b))
-      ≡ answered (pairFault depth p (length a′) q (length b′)) (of (planeSad p a′ q b′))
+      → pairAnswer depth p a q b (of (planeSad p a q b)) ≡ pairAnswer depth p a′ q b′ (of (planeSad p a′ q b′))
   any-alike of =
-      answer-same _ _ _ (λ e. ap of (sums-alike (measured depth p (length a) q (length b) e)))
-      ∙ rw (first .lengths, second .lengths)
+      answer-same _ _ _ (λ e. ap of (sums-alike (measured depth p a q b e)))
+      ∙ ap (λ (fault : ℕ). answered fault (of (planeSad p a′ q b′))) (pair-lengths depth p a a′ q b b′ (first .lengths) (second .lengths))
 
   pub difference-visible : differenceOf depth p a q b ≡ differenceOf depth p a′ q b′
   difference-visible = any-alike (λ (n : ℕ). n)

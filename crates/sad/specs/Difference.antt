@@ -1,11 +1,10 @@
 -- Document 01, "Plane difference and scale": the sum of absolute differences over the visible samples, and delta.
-use mathlib.Core.Path.{_≡_}
-use Prim.Native.Nat.{ℕ, _+_, _*_, _≤_}
+use Prim.Native.Nat.{ℕ, _*_}
 use mathlib.Core.List.{List}
 use lib.Ieee.{Float}
-use lib.ListN.{length, getD}
-use Rattle.answer.specs.Answer.{Answer, answered}
-use Rattle.plane.specs.Planes.{sampleAt, pairFault}
+use lib.ListN.{getD}
+use Rattle.answer.specs.Answer.{Answer}
+use Rattle.plane.specs.Planes.{sampleAt, pairAnswer}
 use Rattle.plane.specs.declared.Plane.{Plane}
 use Rattle.sums.specs.Quotient.{quotientOf}
 use Rattle.sums.specs.Sums.{sumBelow, apart}
@@ -23,17 +22,8 @@ unfoldable pub planeSad : Plane → List ℕ → Plane → List ℕ → ℕ
 planeSad p a q b = sumBelow (p .height) (rowSad p a q b)
 
 abbrev pub differenceOf : ℕ → Plane → List ℕ → Plane → List ℕ → Answer ℕ
-differenceOf depth p a q b = answered (pairFault depth p (length a) q (length b)) (planeSad p a q b)
+differenceOf depth p a q b = pairAnswer depth p a q b (planeSad p a q b)
 
 -- "Delta is that sum over width × height."
 abbrev pub deltaOf : ℕ → Plane → List ℕ → Plane → List ℕ → Answer Float
-deltaOf depth p a q b =
-    answered (pairFault depth p (length a) q (length b)) (quotientOf (planeSad p a q b) (p .width * p .height))
-
--- for the private functions: the sum over n places of two rows from a place on, and two rows of one length that reach as far as n
-abbrev pub gapsFrom : List ℕ → List ℕ → ℕ → ℕ → ℕ
-gapsFrom a b at n = sumBelow n (λ (i : ℕ). gapAt a b (at + i))
-
-pub record Within (a b : List ℕ) (n : ℕ) : Type 0 where
-  pub lengths : length a ≡ length b
-  pub most : n ≤ length a
+deltaOf depth p a q b = pairAnswer depth p a q b (quotientOf (planeSad p a q b) (p .width * p .height))

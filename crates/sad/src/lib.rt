@@ -7,8 +7,10 @@ ghost use Prim.Native.Nat.{_+_, _*_, _^_, _≤_, _<_};
 ghost use lib.ListN.{length};
 ghost use Rattle.answer.specs.Answer.{wholeAnswer, realAnswer};
 ghost use Rattle.plane.specs.Planes.{maxSide, sizesFault};
+ghost use Rattle.sums.specs.Needs.{byteMost};
 ghost use Rattle.sums.specs.Sums.{sumBelow};
-ghost use Rattle.sad.specs.Difference.{gapAt, gapsFrom, Within, planeSad, differenceOf, deltaOf};
+ghost use Rattle.sad.specs.Difference.{gapAt, planeSad, differenceOf, deltaOf};
+ghost use Rattle.sad.specs.Needs.{gapsFrom, Reach};
 
 // A row is taken in chunks of CHUNK samples, what is left of it in chunks of SMALL_CHUNK, and the last few one by one.
 const CHUNK: usize = 32;
@@ -18,8 +20,8 @@ const SMALL_CHUNK: usize = 8;
 // The sum over n samples from a place on. With an n that is constant where this is inlined, the compiler takes 16 samples
 // in one vector instruction; a sum of 16 bits spares it the widening of every distance.
 fn chunk_sad(a: &[u8], b: &[u8], at: usize, n: usize) -> u16
-    requires { ⌜ Within (now a) (now b) (at + n) ⌝ }
-    requires { ⌜ n * 255 < 2 ^ 16 ⌝ }
+    requires { ⌜ Reach (now a) (now b) (at + n) ⌝ }
+    requires { ⌜ n * byteMost < 2 ^ 16 ⌝ }
     ensures { λ r. ⌜ r ≡ gapsFrom (now (a .entry)) (now (b .entry)) at n ⌝ }
 {
     let mut sum: u16 = 0;
@@ -31,8 +33,8 @@ fn chunk_sad(a: &[u8], b: &[u8], at: usize, n: usize) -> u16
 
 // The sum over a number of chunks of n samples each, from a place on.
 fn chunks_sad(a: &[u8], b: &[u8], from: usize, chunks: usize, n: usize) -> u32
-    requires { ⌜ Within (now a) (now b) (from + chunks * n) ⌝ }
-    requires { ⌜ n * 255 < 2 ^ 16 ⌝ }
+    requires { ⌜ Reach (now a) (now b) (from + chunks * n) ⌝ }
+    requires { ⌜ n * byteMost < 2 ^ 16 ⌝ }
     requires { ⌜ length (now a) ≤ maxSide ⌝ }
     ensures { λ r. ⌜ r ≡ gapsFrom (now (a .entry)) (now (b .entry)) from (chunks * n) ⌝ }
 {
@@ -73,7 +75,7 @@ fn sad_plane(p: Plane, a: &[u8], q: Plane, b: &[u8]) -> u64
 pub fn plane_difference(depth: u64, p: Plane, a: &[u8], q: Plane, b: &[u8]) -> Whole
     ensures { λ r. ⌜ wholeAnswer r ≡ differenceOf depth p (now (a .entry)) q (now (b .entry)) ⌝ }
 {
-    let fault = plane::pair_fault(depth, p, a.len(), q, b.len());
+    let fault = plane::pair_fault(depth, p, a, q, b);
     if fault != 0 {
         return Whole::Refused(fault);
     }
@@ -84,7 +86,7 @@ pub fn plane_difference(depth: u64, p: Plane, a: &[u8], q: Plane, b: &[u8]) -> W
 pub fn delta_in_planes(depth: u64, p: Plane, a: &[u8], q: Plane, b: &[u8]) -> Real
     ensures { λ r. ⌜ realAnswer r ≡ deltaOf depth p (now (a .entry)) q (now (b .entry)) ⌝ }
 {
-    let fault = plane::pair_fault(depth, p, a.len(), q, b.len());
+    let fault = plane::pair_fault(depth, p, a, q, b);
     if fault != 0 {
         return Real::Refused(fault);
     }

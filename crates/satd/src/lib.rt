@@ -6,8 +6,9 @@ ghost use lib.IntN.{natAbs, pos, _-ℤ_};
 ghost use lib.ListN.{length};
 ghost use Rattle.answer.specs.Answer.{wholeAnswer};
 ghost use Rattle.hadamard.specs.Transform.{entryMost};
-ghost use Rattle.hadamard.specs.Steps.{Within};
-ghost use Rattle.satd.specs.Satd.{side, differences, absSum, satdOf};
+ghost use Rattle.hadamard.specs.Steps.{AllWithin};
+ghost use Rattle.plane.specs.Blocks.{blockSide};
+ghost use Rattle.satd.specs.Satd.{blockSize, differences, absSum, satdOf};
 
 // How many samples a block has.
 const SAMPLES: usize = 64;
@@ -21,9 +22,9 @@ fn gap(x: u8, y: u8) -> i32
 
 // The first block's samples less the second's.
 fn subtract(first: &[u8], second: &[u8], block: &mut [i32])
-    requires { ⌜ length (now first) ≡ side * side ⌝ }
-    requires { ⌜ length (now second) ≡ side * side ⌝ }
-    requires { ⌜ length (now block) ≡ side * side ⌝ }
+    requires { ⌜ length (now first) ≡ blockSize ⌝ }
+    requires { ⌜ length (now second) ≡ blockSize ⌝ }
+    requires { ⌜ length (now block) ≡ blockSize ⌝ }
     ensures { λ _. ⌜ now (block .exit) ≡ differences (now (first .entry)) (now (second .entry)) ⌝ }
 {
     for i in 0..SAMPLES {
@@ -41,8 +42,8 @@ fn magnitude(v: i32) -> u32
 
 // The sum of the absolute values.
 fn total(block: &[i32]) -> u32
-    requires { ⌜ length (now block) ≡ side * side ⌝ }
-    requires { ⌜ Within (side * (side * entryMost)) (now block) ⌝ }
+    requires { ⌜ length (now block) ≡ blockSize ⌝ }
+    requires { ⌜ AllWithin (blockSide * (blockSide * entryMost)) (now block) ⌝ }
     ensures { λ r. ⌜ r ≡ absSum (now (block .entry)) ⌝ }
 {
     let mut sum = 0;

@@ -3,6 +3,7 @@ use mathlib.Core.Bool.{Bool, true, false, _||_}
 use mathlib.Core.Path.{_≡_, refl, sym, ap, _∙_}
 use Prim.Native.Nat.{ℕ, zero, suc, _+_}
 use native.Mathlib.Nat.{add-zero, add-suc}
+use native.Mathlib.Numerals.{add-one}
 use Rattle.sums.specs.Any.{anyBelow}
 
 or-assoc : (a b c : Bool) → (a || b) || c ≡ a || (b || c)
@@ -18,6 +19,15 @@ or-swap false false c d = refl
 or-false-right : (a : Bool) → a || false ≡ a
 or-false-right true = refl
 or-false-right false = refl
+
+-- no number, and one more
+pub any-zero : (f : ℕ → Bool) → anyBelow 0 f ≡ false
+unfolding anyBelow
+any-zero f = refl
+
+pub any-more : (n : ℕ) (f : ℕ → Bool) → anyBelow (n + 1) f ≡ anyBelow n f || f n
+unfolding anyBelow
+any-more n f = rw add-one
 
 -- a test that never holds
 pub any-none : (n : ℕ) (f : ℕ → Bool) → ((i : ℕ) → f i ≡ false) → anyBelow n f ≡ false

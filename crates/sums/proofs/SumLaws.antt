@@ -1,7 +1,7 @@
 -- The laws of `sumBelow`. Each is stated over the function that is summed, so that it serves samples of any width. Assumes nothing.
 use mathlib.Core.Path.{_≡_, refl}
 use Prim.Native.Nat.{ℕ, zero, suc, _+_, _*_, _≤_, _<_}
-use native.Mathlib.Nat.{add-zero, add-suc}
+use native.Mathlib.Nat.{add-zero, add-suc, mul-le-mul-right}
 use native.Mathlib.Numerals.{add-one}
 use native.Mathlib.Omega.{arith}
 use Rattle.sums.specs.Sums.{sumBelow}
@@ -36,3 +36,16 @@ sum-cut m (suc n) f = let rest = sum-cut m n f in rw add-suc (omega arith)
 -- a sum whose end is another number that is the same
 pub sum-to : (r m n : ℕ) (f : ℕ → ℕ) → r ≡ sumBelow m f → m ≡ n → r ≡ sumBelow n f
 sum-to r m n f p e = rw (← e) p
+
+-- A turn of a loop that sums n numbers of at most b: the sum so far and one number more is the next sum, and it fits a room that all n fit.
+-- This is all that such a loop's proof has to say, whatever the samples' width.
+abbrev pub Turn : ℕ → ℕ → ℕ → ℕ → (ℕ → ℕ) → Type 0
+Turn room i sum part f = (sum + part ≡ sumBelow (i + 1) f) × (sum + part < room)
+
+pub turn : (b n room : ℕ) (f : ℕ → ℕ) → ((j : ℕ) → j < n → f j ≤ b) → n * b < room
+    → (i sum part : ℕ) → i < n → sum ≡ sumBelow i f → part ≡ f i → Turn room i sum part f
+turn b n room f most fits i sum part h e d =
+    let next = sum-more i f in
+    let so-far = sum-most b (i + 1) f (λ j l. most j (omega arith)) in
+    let all : (i + 1) * b ≤ n * b = mul-le-mul-right b (omega arith) in
+    (omega arith, omega arith)

@@ -3,3 +3,4 @@ pub mod Quotient
 pub mod Table
 pub mod Any
 pub mod Written
+pub mod Needs

@@ -7,7 +7,7 @@ use lib.ListN.{length}
 use Rattle.plane.specs.declared.Plane.{Plane}
 use Rattle.intra.proofs.CostLaws.{blocks-most}
 use Rattle.brinepulley.specs.Coded.{coded, planeBy}
-use Rattle.brinepulley.proofs.Numbers.{small-answer}
+use Rattle.brinepulley.proofs.Numbers.{codable-answer}
 use Rattle.brinepulley.proofs.brine_intra_costs.Statement.{statement}
 use Rattle.brinepulley.proofs.brine_intra_costs.Tie as tie
 
@@ -21,8 +21,8 @@ whole-requires c κs =
     let p : Plane = planeBy (s .width) (s .height) (s .stride) (s .origin) in
     let w : Plane = planeBy (s .width2) (s .height2) (s .stride2) (s .origin2) in
     rw (k .estimate-intra-costs .ensures .0)
-    (small-answer _ _
-    (λ e. omega (arith, blocks-most (s .depth) p (length (s .samples .now)) w (length (s .work .now)) (length (s .costs .now)) e)))
+    (codable-answer _ _
+    (λ e. omega (arith, blocks-most (s .depth) p (s .samples .now) w (s .work .now) (length (s .costs .now)) e)))
 
 same-length : tie.Need-same-length
 same-length c = search needs

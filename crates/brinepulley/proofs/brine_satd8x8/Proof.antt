@@ -4,8 +4,9 @@ use native.Mathlib.Omega.{arith}
 use borrow.Author.Needs.{needs, sfits-of}
 use mir.Facts.{toZ-ofZ}
 use Rattle.satd.proofs.SatdLaws.{satd-most}
+use Rattle.sums.specs.Needs.{byteMost}
 use Rattle.brinepulley.specs.Coded.{coded}
-use Rattle.brinepulley.proofs.Numbers.{small-answer}
+use Rattle.brinepulley.proofs.Numbers.{codable-answer}
 use Rattle.brinepulley.proofs.brine_satd8x8.Statement.{statement}
 use Rattle.brinepulley.proofs.brine_satd8x8.Tie as tie
 
@@ -17,10 +18,10 @@ whole-requires c κs =
     let k = c .before in
     let s = k .before .before .args in
     rw (c .satd8x8 .ensures)
-    (small-answer _ _
+    (codable-answer _ _
     (λ e. omega (
       arith,
-      satd-most 255 (s .first .now) (s .second .now)
+      satd-most byteMost (s .first .now) (s .second .now)
           (λ i. omega (arith, k .before .shared-slice-known .given i))
           (λ i. omega (arith, k .shared-slice-known2 .given i)),
     )))

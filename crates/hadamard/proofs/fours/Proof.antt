@@ -9,9 +9,9 @@ use mathlib.Core.List.{List}
 use lib.ListN.{length}
 use Rattle.sums.proofs.TableLaws.{length-table}
 use Rattle.hadamard.specs.Transform.{output}
-use Rattle.hadamard.specs.Steps.{twoAt, pairedFour, fourOf, placed, reach, stores, allLined, lineMost}
+use Rattle.hadamard.specs.Steps.{twoAt, pairedFour, fourOf, nth, lineEntry, stores, allLined, lineMost}
 use Rattle.hadamard.proofs.Places.{none-lined, length-lined}
-use Rattle.hadamard.proofs.PairLaws.{pairs-within, row-is, row-small, row-stored}
+use Rattle.hadamard.proofs.PairLaws.{pairs-within, row-is, row-within, row-stored}
 use Rattle.hadamard.proofs.fours.Statement.{statement}
 use Rattle.hadamard.proofs.fours.Tie as tie
 
@@ -40,7 +40,7 @@ mul-store c = search needs
 -- a row's outputs are those of the list as it was
 told : (c : tie.After-row-outputs Inv-loop μ-loop)
     → let l = c .before .before in
-    c .row-outputs .result ≡ fourOf (output 4 (reach (l .before .args .block .now) (l .loop .i * 4) 1))
+    c .row-outputs .result ≡ fourOf (output 4 (lineEntry (l .before .args .block .now) (l .loop .i * 4) 1))
 told c =
     let l = c .before .before in
     let s = l .before in
@@ -56,7 +56,7 @@ store-requires c κs =
     let b = s .args .block .now in
     let p = s .pre .1 .1 .0 in (
       omega (arith, p .room (l .loop .i) 3 (omega arith) (omega arith), ap length (l .loop .inv .1), length-lined 4 4 1 (l .loop .i) b),
-      row-small b (l .loop .i) (omega arith) lineMost p (r .row-outputs .result) (told r),
+      row-within b (l .loop .i) (omega arith) lineMost p (r .row-outputs .result) (told r),
     )
 
 add-i : tie.Need-add-i Inv-loop μ-loop
@@ -73,7 +73,7 @@ loop-again c =
     let b = s .args .block .now in (
       search needs,
       c .before .store .ensures
-          ∙ ap (stores 4 (l .loop .i * 4) 1 (placed (r .row-outputs .result))) (l .loop .inv .1)
+          ∙ ap (stores 4 (l .loop .i * 4) 1 (nth (r .row-outputs .result))) (l .loop .inv .1)
           ∙ row-stored b (l .loop .i) (omega arith) lineMost (s .pre .1 .1 .0) (r .row-outputs .result) (told r),
     )
 

@@ -3,7 +3,7 @@ use mathlib.Core.Path.{_∙_}
 use native.Mathlib.Omega.{arith}
 use borrow.Author.Needs.{needs}
 use Rattle.hadamard.specs.Steps.{lineMost}
-use Rattle.hadamard.proofs.FourLaws.{outputs-small, line-of-4}
+use Rattle.hadamard.proofs.FourLaws.{outputs-within, line-of-4}
 use Rattle.hadamard.proofs.line4.Statement.{statement}
 use Rattle.hadamard.proofs.line4.Tie as tie
 
@@ -14,7 +14,7 @@ store-requires : tie.Need-store-requires
 store-requires c κs =
     let s = c .before .before .before in (
       s .pre .room 3 (omega arith),
-      rw (c .before .outputs .ensures) (outputs-small (s .args .block .now) (s .args .at) (s .args .step) lineMost (s .pre)),
+      rw (c .before .outputs .ensures) (outputs-within (s .args .block .now) (s .args .at) (s .args .step) lineMost (s .pre)),
     )
 
 same-length : tie.Need-same-length

@@ -2,7 +2,7 @@
 use mathlib.Core.Path.{_≡_, ap}
 use native.Mathlib.Omega.{arith}
 use Rattle.hadamard.specs.declared.Two.{Two}
-use Rattle.hadamard.specs.Steps.{twoOf, placed, lineMost}
+use Rattle.hadamard.specs.Steps.{twoOf, nth, lineMost}
 use Rattle.hadamard.proofs.SignedLaws.{both-small, two-is, two-read}
 use Rattle.hadamard.proofs.FourLaws.{Doubled, doubled}
 use Rattle.hadamard.proofs.Halves.{output-4}
@@ -56,7 +56,7 @@ returns c =
     let q = second-small two in
     let y = two-read (one .butterfly .result .sum) (two .butterfly2 .result .sum) (omega arith) (omega arith) _ (three .butterfly3 .ensures) in
     let z = two-read (one .butterfly .result .difference) (two .butterfly2 .result .difference) (omega arith) (omega arith) _ (four .butterfly4 .ensures) in
-    cc (y .0, y .1, z .0, z .1, ap (λ (t : Two). t .sum) (first two), ap (λ (t : Two). t .difference) (first two), ap (λ (t : Two). t .sum) (second two), ap (λ (t : Two). t .difference) (second two), output-4 (placed (start two .args .x)))
+    cc (y .0, y .1, z .0, z .1, ap (λ (t : Two). t .sum) (first two), ap (λ (t : Two). t .difference) (first two), ap (λ (t : Two). t .sum) (second two), ap (λ (t : Two). t .difference) (second two), output-4 (nth (start two .args .x)))
 
 pub network-spec : {M : Type 1} → statement M
 network-spec =

@@ -1,14 +1,15 @@
 -- `importance::all_differences` meets its contract. After y turns the total is that of the first y rows of blocks. Assumes nothing.
 use mathlib.Core.Path.{_≡_}
-use Prim.Native.Nat.{_+_, _*_, _≤_, _-_}
+use Prim.Native.Nat.{_^_, _≤_, _-_}
 use native.Mathlib.Omega.{arith}
 use borrow.Author.Needs.{needs}
-use Rattle.plane.specs.Blocks.{blocksAcross, blocksDown}
-use Rattle.plane.proofs.PlaneLaws.{pair, total-fits}
+use Rattle.plane.specs.Blocks.{blocksDown}
+use Rattle.plane.proofs.PlaneLaws.{pair}
+use Rattle.sums.specs.Needs.{byteMost}
 use Rattle.sums.specs.Sums.{sumBelow}
-use Rattle.sums.proofs.SumLaws.{sum-none, sum-more, sum-to}
+use Rattle.sums.proofs.SumLaws.{Turn, sum-none, sum-to}
 use Rattle.importance.specs.Importance.{blocksDifference, importanceTotal}
-use Rattle.importance.proofs.BlockSums.{totals-most}
+use Rattle.importance.proofs.BlockSums.{rows-turn}
 use Rattle.importance.proofs.all_differences.Statement.{statement}
 use Rattle.importance.proofs.all_differences.Tie as tie
 
@@ -24,30 +25,21 @@ loop-holds c = (search needs, search needs, sum-none _)
 blocks-difference-requires : tie.Need-blocks-difference-requires Inv-loop μ-loop
 blocks-difference-requires c κs = (c .before .before .before .before .before .pre, omega arith)
 
--- a turn's total, and its bound
 next : (c : tie.After-blocks-difference Inv-loop μ-loop)
     → let l = c .before .before in
     let s = l .before .before .before .before .args in
-    let more = sumBelow (l .loop .y + 1) (blocksDifference (s .p) (s .a .now) (s .q) (s .b .now)) in
-    (l .loop .total + c .blocks-difference .result ≡ more) × (more ≤ (l .loop .y + 1) * (blocksAcross (s .p) * 255))
+    Turn (2 ^ 42) (l .loop .y) (l .loop .total) (c .blocks-difference .result) (blocksDifference (s .p) (s .a .now) (s .q) (s .b .now))
 next c =
     let l = c .before .before in
     let k = l .before .before in
-    let s = k .before .before .args in (
-      omega (arith, sum-more (l .loop .y) (blocksDifference (s .p) (s .a .now) (s .q) (s .b .now))),
-      totals-most 255 (s .p) (s .a .now) (s .q) (s .b .now)
-          (λ i. omega (arith, k .before .shared-slice-known .given i))
-          (λ i. omega (arith, k .shared-slice-known2 .given i))
-          (l .loop .y + 1),
-    )
+    let s = k .before .before .args in
+    rows-turn byteMost (s .p) (s .a .now) (s .q) (s .b .now)
+    (λ i. omega (arith, k .before .shared-slice-known .given i))
+    (λ i. omega (arith, k .shared-slice-known2 .given i))
+    (omega arith) (pair _ _ _ _ (k .before .before .pre) .first) (l .loop .y) (l .loop .total) (c .blocks-difference .result) (omega arith) (l .loop .inv .2) (c .blocks-difference .ensures)
 
 add-total : tie.Need-add-total Inv-loop μ-loop
-add-total c =
-    let l = c .before .before in
-    let s = l .before .before .before .before in
-    let f = pair _ _ _ _ (s .pre) .first in
-    let n = next c in
-    omega (arith, total-fits (l .loop .y + 1) (blocksAcross (s .args .p)) 255 (omega arith) (omega arith) (omega arith))
+add-total c = omega (arith, next c .1)
 
 add-y : tie.Need-add-y Inv-loop μ-loop
 add-y c = search needs

@@ -1,22 +1,23 @@
 -- `importance::sum_8x8_block` meets its contract. After j turns the sum is that of the first j rows, each a part of the samples. Assumes nothing.
 use mathlib.Core.Path.{_≡_, _∙_}
-use Prim.Native.Nat.{ℕ, _+_, _*_, _≤_, _-_}
+use Prim.Native.Nat.{_+_, _*_, _^_, _≤_, _-_}
 use native.Mathlib.Omega.{arith}
 use borrow.Author.Needs.{needs}
-use lib.ListN.{length, getD, length-take, length-drop}
+use lib.ListN.{length, length-take, length-drop}
 use Rattle.plane.specs.Blocks.{blockSide}
+use Rattle.sums.specs.Needs.{byteMost}
 use Rattle.sums.specs.Sums.{sumBelow}
-use Rattle.sums.proofs.SumLaws.{sum-none, sum-more, sum-to}
-use Rattle.importance.proofs.BlockSums.{part-sum, rows-most}
+use Rattle.sums.proofs.SumLaws.{Turn, sum-none, sum-to}
+use Rattle.importance.specs.Needs.{eightFrom}
+use Rattle.importance.proofs.BlockSums.{part-sum, block-turn}
 use Rattle.importance.proofs.sum_8x8_block.Statement.{statement}
 use Rattle.importance.proofs.sum_8x8_block.Tie as tie
 
 abbrev Inv-loop : tie.InvT-loop
-Inv-loop s start stride sum₀ j₀ sum j =
-    (j ≤ 8) × (sum ≡ sumBelow j (λ (n : ℕ). sumBelow blockSide (λ (i : ℕ). getD s (start + n * stride + i) 0)))
+Inv-loop s start stride sum₀ j₀ sum j = (j ≤ blockSide) × (sum ≡ sumBelow j (eightFrom s start stride))
 
 abbrev μ-loop : tie.MeasureT-loop
-μ-loop s start stride sum₀ j₀ sum j = 8 - j
+μ-loop s start stride sum₀ j₀ sum j = blockSide - j
 
 loop-holds : tie.Need-loop-holds Inv-loop μ-loop
 loop-holds c = (search needs, sum-none _)
@@ -24,7 +25,7 @@ loop-holds c = (search needs, sum-none _)
 -- row j lies within the samples
 inside : (c : tie.In-loop Inv-loop μ-loop)
     → let s = c .before .before .before .args in
-    s .start + c .before .loop .j * s .stride + 8 ≤ length (s .s .now)
+    s .start + c .before .loop .j * s .stride + blockSide ≤ length (s .s .now)
 inside c = c .before .before .before .pre (c .before .loop .j) (omega arith)
 
 mul-i : tie.Need-mul-i Inv-loop μ-loop
@@ -45,24 +46,19 @@ part-sum-row-end c = search needs
 sum-row-requires : tie.Need-sum-row-requires Inv-loop μ-loop
 sum-row-requires c κs = simp (length-take, length-drop) (omega (arith, inside (c .before)))
 
--- a turn's sum, and its bound
 next : (c : tie.After-sum-row Inv-loop μ-loop)
     → let l = c .before .before .before in
     let s = l .before .before .args in
-    let more = sumBelow (l .loop .j + 1) (λ (n : ℕ). sumBelow blockSide (λ (i : ℕ). getD (s .s .now) (s .start + n * s .stride + i) 0)) in
-    (l .loop .sum + c .sum-row .result ≡ more) × (more ≤ (l .loop .j + 1) * 2040)
+    Turn (2 ^ 16) (l .loop .j) (l .loop .sum) (c .sum-row .result) (eightFrom (s .s .now) (s .start) (s .stride))
 next c =
     let l = c .before .before .before in
     let s = l .before .before .args in
-    let row : ℕ → ℕ = λ (n : ℕ). sumBelow blockSide (λ (i : ℕ). getD (s .s .now) (s .start + n * s .stride + i) 0) in
-    let one : c .sum-row .result ≡ row (l .loop .j) =
-    c .sum-row .ensures ∙ part-sum (s .s .now) (s .start + l .loop .j * s .stride) blockSide (inside (c .before .before)) in (
-      omega (arith, sum-more (l .loop .j) row),
-      rows-most 255 (s .s .now) (λ i. omega (arith, l .before .shared-slice-known .given i)) (s .start) (s .stride) (l .loop .j + 1),
-    )
+    block-turn byteMost (s .s .now) (λ i. omega (arith, l .before .shared-slice-known .given i)) (2 ^ 16) (s .start) (s .stride) (omega arith)
+    (l .loop .j) (l .loop .sum) (c .sum-row .result) (omega arith) (l .loop .inv .1)
+    (c .sum-row .ensures ∙ part-sum (s .s .now) (s .start + l .loop .j * s .stride) blockSide (inside (c .before .before)))
 
 add-sum : tie.Need-add-sum Inv-loop μ-loop
-add-sum c = let h = next c in omega arith
+add-sum c = record { fits = next c .1 }
 
 add-j : tie.Need-add-j Inv-loop μ-loop
 add-j c = search needs

@@ -1,19 +1,22 @@
 -- `importance::sum_row` meets its contract. After i turns the sum is that of the first i samples. Assumes nothing.
 use mathlib.Core.Path.{_≡_}
-use Prim.Native.Nat.{ℕ, _+_, _*_, _≤_, _-_}
+use Prim.Native.Nat.{ℕ, _^_, _≤_, _-_}
 use native.Mathlib.Omega.{arith}
 use borrow.Author.Needs.{needs}
 use lib.ListN.{getD}
+use Rattle.plane.specs.Blocks.{blockSide}
+use Rattle.sums.specs.Needs.{byteMost}
 use Rattle.sums.specs.Sums.{sumBelow}
-use Rattle.sums.proofs.SumLaws.{sum-none, sum-more, sum-most, sum-to}
+use Rattle.sums.proofs.SumLaws.{Turn, sum-none, sum-to}
+use Rattle.importance.proofs.BlockSums.{row-turn}
 use Rattle.importance.proofs.sum_row.Statement.{statement}
 use Rattle.importance.proofs.sum_row.Tie as tie
 
 abbrev Inv-loop : tie.InvT-loop
-Inv-loop s sum₀ i₀ sum i = (i ≤ 8) × (sum ≡ sumBelow i (λ (n : ℕ). getD s n 0))
+Inv-loop s sum₀ i₀ sum i = (i ≤ blockSide) × (sum ≡ sumBelow i (λ (n : ℕ). getD s n 0))
 
 abbrev μ-loop : tie.MeasureT-loop
-μ-loop s sum₀ i₀ sum i = 8 - i
+μ-loop s sum₀ i₀ sum i = blockSide - i
 
 loop-holds : tie.Need-loop-holds Inv-loop μ-loop
 loop-holds c = (search needs, sum-none _)
@@ -24,21 +27,16 @@ shared-slice-read-sum c = omega arith
 cast-sum : tie.Need-cast-sum Inv-loop μ-loop
 cast-sum c = omega (arith, c .shared-slice-known .given (c .before .before .loop .i))
 
--- a turn's sum, and its bound
 next : (c : tie.After-shared-slice-known Inv-loop μ-loop)
     → let l = c .before .before in
     let s = l .before .args .s .now in
-    let more = sumBelow (l .loop .i + 1) (λ (n : ℕ). getD s n 0) in
-    (l .loop .sum + getD s (l .loop .i) 0 ≡ more) × (more ≤ (l .loop .i + 1) * 255)
+    Turn (2 ^ 16) (l .loop .i) (l .loop .sum) (getD s (l .loop .i) 0) (λ (n : ℕ). getD s n 0)
 next c =
     let l = c .before .before in
-    let s = l .before .args .s .now in (
-      omega (arith, sum-more (l .loop .i) (λ (n : ℕ). getD s n 0)),
-      sum-most 255 (l .loop .i + 1) (λ (n : ℕ). getD s n 0) (λ i _. omega (arith, c .shared-slice-known .given i)),
-    )
+    row-turn byteMost (l .before .args .s .now) (λ i. omega (arith, c .shared-slice-known .given i)) (2 ^ 16) (omega arith) (l .loop .i) (l .loop .sum) (omega arith) (l .loop .inv .1)
 
 add-sum : tie.Need-add-sum Inv-loop μ-loop
-add-sum c = let h = next c in omega arith
+add-sum c = record { fits = next c .1 }
 
 add-i : tie.Need-add-i Inv-loop μ-loop
 add-i c = search needs

@@ -1,16 +1,11 @@
 -- `intra::block_cost` meets its contract: both blocks have their 64 samples, so that the SATD is not refused, and it fits a u32. Assumes nothing.
-use mathlib.Core.List.{List}
-use mathlib.Core.Path.{_≡_, ap, _∙_}
-use Prim.Native.Nat.{ℕ}
+use mathlib.Core.Path.{_≡_}
 use native.Mathlib.Omega.{arith}
 use borrow.Author.Needs.{needs}
-use lib.ListN.{length}
-use Rattle.answer.specs.Answer.{wholeAnswer}
-use Rattle.satd.specs.Satd.{satdValue, satdOf}
-use Rattle.sums.specs.Table.{table}
-use Rattle.sums.proofs.TableLaws.{length-table}
-use Rattle.intra.specs.Costs.{blockSize, prediction, squareAt}
-use Rattle.intra.proofs.CostLaws.{cost-given, never-refused, cost-most}
+use Rattle.sums.specs.Needs.{byteMost}
+use Rattle.answer.specs.Answer.{gives, wholeAnswer}
+use Rattle.intra.specs.Needs.{squareCost}
+use Rattle.intra.proofs.CostLaws.{cost-given, number-given, never-refused, cost-most}
 use Rattle.intra.proofs.block_cost.Statement.{statement}
 use Rattle.intra.proofs.block_cost.Tie as tie
 
@@ -35,28 +30,18 @@ enum-known-cost c = search needs
 enum-told : tie.Need-enum-told
 enum-told c = search needs
 
--- the block's samples
-abbrev block : tie.After-satd8x8 → List ℕ
-block c = let s = c .before .before .before .before .before .before .before .args in table blockSize (squareAt (s .s .now) (s .start) (s .stride))
-
-whole-block : (c : tie.After-satd8x8) → length (block c) ≡ blockSize
-whole-block c = length-table blockSize _
-
-answer : (c : tie.After-satd8x8) → wholeAnswer (c .satd8x8 .result) ≡ satdOf (block c) prediction
-unfolding prediction
-answer c = c .satd8x8 .ensures ∙ ap (λ (l : List ℕ). satdOf l prediction) (c .before .before .before .before .load-block .ensures)
+-- the SATD's answer is the cost
+answer : (c : tie.After-satd8x8)
+    → let s = c .before .before .before .before .before .before .before .args in
+    gives (squareCost (s .flat) (s .s .now) (s .start) (s .stride)) ≡ wholeAnswer (c .satd8x8 .result)
+answer c =
+    let s = c .before .before .before .before .before .before .before .args in
+    cost-given (s .flat) (s .start) (s .stride) (s .s .now) _ (c .satd8x8 .result) (c .before .before .before .before .load-block .ensures) (c .satd8x8 .ensures)
 
 returns : tie.Need-returns
-returns c =
-    let d = c .before .before in
-    absurd (never-refused (block d) (whole-block d) (d .satd8x8 .result) (answer d) _ (c .enum-told .given .1))
+returns c = absurd (never-refused (c .before .before .satd8x8 .result) (answer (c .before .before)) _ (c .enum-told .given .1))
 
--- the number that was taken out of the answer
-number : (c : tie.After-known-told) → let d = c .before .before .before in c .before .cost .given .0 .0 ≡ satdValue (block d) prediction
-number c =
-    let d = c .before .before .before in
-    cost-given (block d) (whole-block d) (d .satd8x8 .result) (answer d) _ (c .before .cost .given .1)
-
+-- the number that was taken out of it
 cast-result : tie.Need-cast-result
 cast-result c =
     let k = c .before .before .before .before .before .before .before .before .before in
@@ -64,11 +49,11 @@ cast-result c =
     record {
       fits =
           omega
-          (arith, number c, cost-most 255 (s .start) (s .stride) (s .s .now) (omega arith) (λ i. omega (arith, k .shared-slice-known .given i)));
+          (arith, number-given (c .before .before .before .satd8x8 .result) (answer (c .before .before .before)) _ (c .before .cost .given .1), cost-most byteMost (s .flat) (s .start) (s .stride) (s .s .now) (omega arith) (λ i. omega (arith, k .shared-slice-known .given i)));
     }
 
 returns-2 : tie.Need-returns-2
-returns-2 c = number c
+returns-2 c = number-given (c .before .before .before .satd8x8 .result) (answer (c .before .before .before)) _ (c .before .cost .given .1)
 
 pub block-cost-spec : {M : Type 1} → statement M
 block-cost-spec =

@@ -1,23 +1,19 @@
 -- `intra::estimate_intra_costs` meets its contract: a refusal leaves both lent places as they were, and else all blocks are filled and priced. Assumes nothing.
 use mathlib.Core.Path.{_≡_, refl, sym, _∙_}
-use Prim.Native.Nat.{_≤_}
 use native.Mathlib.Omega.{arith}
 use borrow.Author.Needs.{needs}
-use borrow.Author.Tests.{ltb-false}
-use lib.Dec.{ltb}
 use lib.ListN.{length}
-use Rattle.answer.specs.Refusal.{refusal}
-use Rattle.answer.proofs.Laws.{or-none, passed, answer-given, answer-refused, lent-written, lent-kept}
-use Rattle.plane.specs.Blocks.{blockCount}
-use Rattle.plane.specs.Planes.{pairFault, sizesFault}
-use Rattle.plane.proofs.BlockLaws.{count-most}
-use Rattle.plane.proofs.PlaneLaws.{measured, pair}
+use Rattle.answer.proofs.Laws.{answer-given, answer-refused, lent-written, lent-kept}
 use Rattle.intra.specs.Costs.{intraFault}
+use Rattle.intra.proofs.CostLaws.{fine, blocks-most}
 use Rattle.intra.proofs.estimate_intra_costs.Statement.{statement}
 use Rattle.intra.proofs.estimate_intra_costs.Tie as tie
 
 intra-fault-requires : tie.Need-intra-fault-requires
 intra-fault-requires c κs = search needs
+
+same-length : tie.Need-same-length
+same-length c = search needs
 
 returns : tie.Need-returns
 returns c =
@@ -26,33 +22,24 @@ returns c =
 
 -- past the test nothing is refused
 none : (c : tie.Else1)
-    → let s = c .before .before .before .before .before .args in
-    0 ≡ intraFault (s .depth) (s .p) (length (s .s .now)) (s .w) (length (s .work .now)) (length (s .costs .now))
+    → let s = c .before .before .before .before .before .before .args in
+    0 ≡ intraFault (s .depth) (s .p) (s .s .now) (s .w) (s .work .now) (length (s .costs .now))
 none c = sym (c .if1 .left) ∙ c .before .intra-fault .ensures
 
-fine : (c : tie.Else1)
-    → let s = c .before .before .before .before .before .args in
-    (sizesFault (s .p) (length (s .s .now)) (s .w) (length (s .work .now)) ≡ 0) × (blockCount (s .p) ≤ length (s .costs .now))
-unfolding intraFault
-fine c =
-    let s = c .before .before .before .before .before .args in
-    let t = or-none (pairFault (s .depth) (s .p) (length (s .s .now)) (s .w) (length (s .work .now))) (refusal 4 (ltb (length (s .costs .now)) (blockCount (s .p)))) (sym (none c)) in
-    (measured _ _ _ _ _ (t .0), ltb-false _ _ (passed 3 (ltb (length (s .costs .now)) (blockCount (s .p))) (t .1)))
-
 all-costs-requires : tie.Need-all-costs-requires
-all-costs-requires c κs = fine (c .before .before)
+all-costs-requires c κs = fine _ _ _ _ _ _ (sym (none (c .before .before)))
 
-mul-t10 : tie.Need-mul-t10
-mul-t10 c =
+mul-t18 : tie.Need-mul-t18
+mul-t18 c =
     let d = c .before .before .before .before .before .before .before .before .before in
-    let p = d .before .before .before .before .before .args .p in
-    record { fits = omega (arith, count-most p _ (pair _ _ _ _ (fine d .0) .first)) }
-
-same-length : tie.Need-same-length
-same-length c = search needs
+    let s = d .before .before .before .before .before .before .args in
+    omega (arith, blocks-most (s .depth) (s .p) (s .s .now) (s .w) (s .work .now) (length (s .costs .now)) (sym (none d)))
 
 same-length-2 : tie.Need-same-length-2
 same-length-2 c = search needs
+
+same-length-3 : tie.Need-same-length-3
+same-length-3 c = search needs
 
 returns-2 : tie.Need-returns-2
 returns-2 c =
@@ -68,9 +55,10 @@ estimate-intra-costs-spec =
     tie.close
     (tie.spec
     intra-fault-requires
+    same-length
     returns
     all-costs-requires
-    mul-t10
-    same-length
+    mul-t18
     same-length-2
+    same-length-3
     returns-2)

@@ -1,31 +1,30 @@
 -- `intra::fill_block` meets its contract. After y turns y rows are filled, each lent as a part from the block's column onward. Assumes nothing.
-use mathlib.Core.Path.{_≡_, refl, ap, _∙_}
+use mathlib.Core.Path.{refl}
 use Prim.Native.Nat.{ℕ, _+_, _*_, _≤_, _-_}
 use native.Mathlib.Omega.{arith}
 use borrow.Author.Needs.{needs}
 use lib.ListN.{length, length-take, length-drop}
 use Rattle.plane.specs.Blocks.{blockSide}
-use Rattle.sums.specs.Written.{written}
-use Rattle.sums.proofs.WrittenLaws.{length-written}
-use Rattle.intra.specs.Fill.{flat, inRun, filled}
-use Rattle.intra.proofs.FillLaws.{put-back, rows-none, rows-more}
+use Rattle.intra.specs.Fill.{inRows}
+use Rattle.intra.proofs.FillLaws.{rows-none, rows-next}
+use Rattle.intra.proofs.Wrote.{Wrote, wrote-none, wrote-part, wrote-all}
 use Rattle.intra.proofs.fill_block.Statement.{statement}
 use Rattle.intra.proofs.fill_block.Tie as tie
 
 abbrev Inv-loop : tie.InvT-loop
-Inv-loop work₀ start stride y₀ work y = (y ≤ 8) × (length work ≡ length work₀) × (work ≡ filled start stride y blockSide work₀)
+Inv-loop work₀ start stride flat y₀ work y = (y ≤ blockSide) × Wrote (inRows start stride y blockSide) (λ (k : ℕ). flat) work₀ work
 
 abbrev μ-loop : tie.MeasureT-loop
-μ-loop work₀ start stride y₀ work y = 8 - y
+μ-loop work₀ start stride flat y₀ work y = blockSide - y
 
 loop-holds : tie.Need-loop-holds Inv-loop μ-loop
-loop-holds c = (search needs, refl, rows-none _ _ _ _)
+loop-holds c = (search needs, wrote-none _ _ _ (rows-none _ _ _))
 
 -- row y lies within the samples
 inside : (c : tie.In-loop Inv-loop μ-loop)
     → let s = c .before .before .before .args in
-    s .start + c .before .loop .y * s .stride + 8 ≤ length (s .work .now)
-inside c = c .before .before .before .pre (c .before .loop .y) (omega arith)
+    s .start + c .before .loop .y * s .stride + blockSide ≤ length (s .work .now)
+inside c = c .before .before .before .pre .rows (c .before .loop .y) (omega arith)
 
 mul-i : tie.Need-mul-i Inv-loop μ-loop
 mul-i c = omega (arith, inside c)
@@ -54,23 +53,19 @@ loop-less c = search needs
 loop-again : tie.Need-loop-again Inv-loop μ-loop
 loop-again c =
     let l = c .before .before .before .before .before in
-    let s = l .before .before .args in
-    let i = s .start + l .loop .y * s .stride in
-    let h : i + 8 ≤ length (l .loop .work) = omega (arith, inside (c .before .before .before .before)) in
-    let e = put-back i 8 (λ (k : ℕ). flat) (λ (k : ℕ). flat) (l .loop .work) h (λ k _. refl) _ (c .before .before .fill-row .ensures) in (
+    let s = l .before .before .args in (
       search needs,
-      ap length e ∙ length-written (inRun i 8) (λ (k : ℕ). flat) (l .loop .work) ∙ l .loop .inv .1,
-      e ∙ ap (written (inRun i 8) (λ (k : ℕ). flat)) (l .loop .inv .2) ∙ rows-more (s .start) (s .stride) (l .loop .y) 8 (s .work .now),
+      wrote-part (l .loop .inv .1) _ blockSide (λ (k : ℕ). s .flat) (inside (c .before .before .before .before)) (λ k _. refl) _ (c .before .before .fill-row .ensures)
+          (rows-next (s .start) (s .stride) (l .loop .y) blockSide),
     )
 
 same-length : tie.Need-same-length Inv-loop μ-loop
-same-length c = c .before .loop .inv .1
+same-length c = c .before .loop .inv .1 .same
 
 returns : tie.Need-returns Inv-loop μ-loop
 returns c =
     let s = c .before .before .before .args in
-    let e : c .before .loop .y ≡ 8 = omega arith in
-    c .before .loop .inv .2 ∙ ap (λ (n : ℕ). filled (s .start) (s .stride) n blockSide (s .work .now)) e
+    wrote-all (λ (n : ℕ). inRows (s .start) (s .stride) n blockSide) (c .before .loop .y) blockSide (c .before .loop .inv .1) (omega arith)
 
 pub fill-block-spec : {M : Type 1} → statement M
 fill-block-spec =

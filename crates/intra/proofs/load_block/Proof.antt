@@ -1,28 +1,28 @@
 -- `intra::load_block` meets its contract. After j turns the first j rows of the block are copied, each from a part of the samples. Assumes nothing.
-use mathlib.Core.Path.{_≡_, refl, ap, _∙_}
+use mathlib.Core.Path.{_∙_}
 use Prim.Native.Nat.{ℕ, _+_, _*_, _≤_, _-_}
 use native.Mathlib.Omega.{arith}
 use borrow.Author.Needs.{needs}
 use lib.Dec.{ltb}
 use lib.ListN.{length, getD, take, drop, length-take, length-drop}
-use Rattle.sums.specs.Written.{written}
-use Rattle.sums.proofs.WrittenLaws.{length-written, prefix-none, prefix-all}
-use Rattle.intra.specs.Costs.{blockSize, squareAt}
-use Rattle.intra.specs.Fill.{inRun}
-use Rattle.intra.proofs.FillLaws.{put-back}
-use Rattle.intra.proofs.CostLaws.{row-of-square, rows-joined}
+use Rattle.plane.specs.Blocks.{blockSide}
+use Rattle.satd.specs.Satd.{blockSize}
+use Rattle.sums.proofs.WrittenLaws.{prefix-all}
+use Rattle.intra.specs.Needs.{squareAt}
+use Rattle.intra.proofs.CostLaws.{row-of-square}
+use Rattle.intra.proofs.FillLaws.{fronts-next}
+use Rattle.intra.proofs.Wrote.{Wrote, wrote-part, wrote-all, front-none}
 use Rattle.intra.proofs.load_block.Statement.{statement}
 use Rattle.intra.proofs.load_block.Tie as tie
 
 abbrev Inv-loop : tie.InvT-loop
-Inv-loop block₀ s start stride j₀ block j =
-    (j ≤ 8) × (length block ≡ length block₀) × (block ≡ written (λ (k : ℕ). ltb k (j * 8)) (squareAt s start stride) block₀)
+Inv-loop block₀ s start stride j₀ block j = (j ≤ blockSide) × Wrote (λ (k : ℕ). ltb k (j * blockSide)) (squareAt s start stride) block₀ block
 
 abbrev μ-loop : tie.MeasureT-loop
-μ-loop block₀ s start stride j₀ block j = 8 - j
+μ-loop block₀ s start stride j₀ block j = blockSide - j
 
 loop-holds : tie.Need-loop-holds Inv-loop μ-loop
-loop-holds c = (search needs, refl, prefix-none _ _)
+loop-holds c = (search needs, front-none _ _)
 
 -- the function's start, from a turn
 abbrev entry : tie.In-loop Inv-loop μ-loop → tie.Start Inv-loop μ-loop
@@ -31,8 +31,8 @@ entry c = c .before .before .before .before
 -- row j lies within the samples, and its eight places within the block
 inside : (c : tie.In-loop Inv-loop μ-loop)
     → let s = entry c .args in
-    (s .start + c .before .loop .j * s .stride + 8 ≤ length (s .s .now)) × (c .before .loop .j * 8 + 8 ≤ length (c .before .loop .block))
-inside c = (entry c .pre .1 (c .before .loop .j) (omega arith), omega (arith, entry c .pre .0))
+    (s .start + c .before .loop .j * s .stride + 8 ≤ length (s .s .now)) × (c .before .loop .j * 8 + 8 ≤ length (s .block .now))
+inside c = (entry c .pre .1 .rows (c .before .loop .j) (omega arith), omega (arith, entry c .pre .0))
 
 mul-at : tie.Need-mul-at Inv-loop μ-loop
 mul-at c = omega arith
@@ -77,26 +77,20 @@ loop-again c =
     let l = c .before .before .before .before .before .before in
     let s = l .before .before .before .args in
     let h = inside (c .before .before .before .before .before) in
-    let i = s .start + l .loop .j * s .stride in
-    let g : ℕ → ℕ = squareAt (s .s .now) (s .start) (s .stride) in
-    let e =
-    put-back (l .loop .j * 8) 8 (λ (k : ℕ). getD (take (length (s .s .now) - i) (drop i (s .s .now))) k 0) g (l .loop .block) (h .1)
-    (λ k k<. row-of-square (s .s .now) (s .start) (s .stride) (l .loop .j) k (h .0) k<)
-    _ (c .before .before .copy-row .ensures) in (
+    let i = s .start + l .loop .j * s .stride in (
       search needs,
-      ap length e ∙ length-written (inRun (l .loop .j * 8) 8) g (l .loop .block) ∙ l .loop .inv .1,
-      e ∙ ap (written (inRun (l .loop .j * 8) 8) g) (l .loop .inv .2) ∙ rows-joined g (l .loop .j) (s .block .now),
+      wrote-part (l .loop .inv .1) _ blockSide (λ (k : ℕ). getD (take (length (s .s .now) - i) (drop i (s .s .now))) k 0) (h .1)
+          (λ k k<. row-of-square (s .s .now) (s .start) (s .stride) (l .loop .j) k (h .0) k<) _ (c .before .before .copy-row .ensures)
+          (fronts-next blockSide (l .loop .j)),
     )
 
 same-length : tie.Need-same-length Inv-loop μ-loop
-same-length c = c .before .loop .inv .1
+same-length c = c .before .loop .inv .1 .same
 
 returns : tie.Need-returns Inv-loop μ-loop
 returns c =
     let s = c .before .before .before .before in
-    let e : c .before .loop .j ≡ 8 = omega arith in
-    c .before .loop .inv .2
-    ∙ ap (λ (n : ℕ). written (λ (k : ℕ). ltb k (n * 8)) (squareAt (s .args .s .now) (s .args .start) (s .args .stride)) (s .args .block .now)) e
+    wrote-all (λ (n k : ℕ). ltb k (n * blockSide)) (c .before .loop .j) blockSide (c .before .loop .inv .1) (omega arith)
     ∙ prefix-all blockSize _ (s .args .block .now) (s .pre .0)
 
 pub load-block-spec : {M : Type 1} → statement M

@@ -6,12 +6,12 @@ use Rattle.plane.specs.Planes.{pairFault}
 use Rattle.plane.proofs.pair_fault.Statement.{statement}
 use Rattle.plane.proofs.pair_fault.Tie as tie
 
-depth-fault-requires : tie.Need-depth-fault-requires
-depth-fault-requires c κs = search needs
+byte-fault-requires : tie.Need-byte-fault-requires
+byte-fault-requires c κs = search needs
 
 returns : tie.Need-returns
 unfolding pairFault
-returns c = or-given _ _ _ (c .before .depth-fault .ensures) (c .if1 .taken)
+returns c = or-given _ _ _ (c .before .byte-fault .ensures) (c .if1 .taken)
 
 sizes-fault-requires : tie.Need-sizes-fault-requires
 sizes-fault-requires c κs = search needs
@@ -19,7 +19,7 @@ sizes-fault-requires c κs = search needs
 returns-2 : tie.Need-returns-2
 unfolding pairFault
 returns-2 c =
-    or-later _ _ _ (sym (c .before .if1 .left) ∙ c .before .before .depth-fault .ensures) (c .sizes-fault .ensures)
+    or-later _ _ _ (sym (c .before .if1 .left) ∙ c .before .before .byte-fault .ensures) (c .sizes-fault .ensures)
 
 pub pair-fault-spec : {M : Type 1} → statement M
-pair-fault-spec = tie.close (tie.spec depth-fault-requires returns sizes-fault-requires returns-2)
+pair-fault-spec = tie.close (tie.spec byte-fault-requires returns sizes-fault-requires returns-2)

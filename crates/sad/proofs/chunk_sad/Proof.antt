@@ -1,11 +1,13 @@
 -- `sad::chunk_sad` meets its contract. After i turns the sum is that of the chunk's first i pairs, which by the bound on a sample fits. Assumes nothing.
 use mathlib.Core.Path.{_≡_}
-use Prim.Native.Nat.{ℕ, _+_, _*_, _≤_, _-_}
+use Prim.Native.Nat.{ℕ, _+_, _^_, _≤_, _-_}
 use native.Mathlib.Omega.{arith}
 use borrow.Author.Needs.{needs}
-use Rattle.sums.proofs.SumLaws.{sum-none, sum-more, sum-to}
-use Rattle.sad.specs.Difference.{gapAt, gapsFrom}
-use Rattle.sad.proofs.SadLaws.{gaps-most}
+use Rattle.sums.specs.Needs.{byteMost}
+use Rattle.sums.proofs.SumLaws.{Turn, sum-none, sum-to}
+use Rattle.sad.specs.Difference.{gapAt}
+use Rattle.sad.specs.Needs.{gapsFrom}
+use Rattle.sad.proofs.SadLaws.{chunk-turn}
 use Rattle.sad.proofs.chunk_sad.Statement.{statement}
 use Rattle.sad.proofs.chunk_sad.Tie as tie
 
@@ -33,24 +35,20 @@ shared-slice-read-distance-2 c = search needs
 distance-requires : tie.Need-distance-requires Inv-loop μ-loop
 distance-requires c κs = search needs
 
--- a turn's sum, and its bound
 next : (c : tie.After-distance Inv-loop μ-loop)
     → let l = c .before .before .before .before in
     let s = l .before .before .before .args in
-    let more = gapsFrom (s .a .now) (s .b .now) (s .at) (l .loop .i + 1) in
-    (l .loop .sum + c .distance .result ≡ more) × (more ≤ (l .loop .i + 1) * 255)
+    Turn (2 ^ 16) (l .loop .i) (l .loop .sum) (c .distance .result) (λ (i : ℕ). gapAt (s .a .now) (s .b .now) (s .at + i))
 next c =
     let l = c .before .before .before .before in
-    let s = l .before .before .before .args in (
-      omega (arith, sum-more (l .loop .i) (λ (i : ℕ). gapAt (s .a .now) (s .b .now) (s .at + i))),
-      gaps-most 255 (s .a .now) (s .b .now)
-          (λ i. omega (arith, l .before .before .shared-slice-known .given i))
-          (λ i. omega (arith, l .before .shared-slice-known2 .given i))
-          (s .at) (l .loop .i + 1),
-    )
+    let s = l .before .before .before in
+    chunk-turn byteMost (s .args .a .now) (s .args .b .now)
+    (λ i. omega (arith, l .before .before .shared-slice-known .given i))
+    (λ i. omega (arith, l .before .shared-slice-known2 .given i))
+    (s .args .at) (s .args .n) (2 ^ 16) (omega arith) (l .loop .i) (l .loop .sum) (c .distance .result) (omega arith) (l .loop .inv .1) (c .distance .ensures)
 
 add-sum : tie.Need-add-sum Inv-loop μ-loop
-add-sum c = let h = next c in omega arith
+add-sum c = record { fits = next c .1 }
 
 add-i : tie.Need-add-i Inv-loop μ-loop
 add-i c = search needs

@@ -1,14 +1,15 @@
 -- `sad::chunks_sad` meets its contract. After c turns the sum is that of the first c chunks, which by the bounds on a sample and on a row fits.
 -- Assumes nothing.
 use mathlib.Core.Path.{_≡_, ap}
-use Prim.Native.Nat.{ℕ, _+_, _*_, _≤_, _-_}
+use Prim.Native.Nat.{ℕ, _+_, _*_, _^_, _≤_, _<_, _-_}
 use native.Mathlib.Nat.{mul-le-mul-right}
 use native.Mathlib.Omega.{arith}
 use borrow.Author.Needs.{needs}
 use lib.ListN.{length}
+use Rattle.sums.specs.Needs.{byteMost}
 use Rattle.sums.proofs.SumLaws.{sum-none, sum-to}
-use Rattle.sad.specs.Difference.{gapsFrom}
-use Rattle.sad.proofs.SadLaws.{gaps-most, chunk-more}
+use Rattle.sad.specs.Needs.{gapsFrom}
+use Rattle.sad.proofs.SadLaws.{chunks-turn}
 use Rattle.sad.proofs.chunks_sad.Statement.{statement}
 use Rattle.sad.proofs.chunks_sad.Tie as tie
 
@@ -38,27 +39,26 @@ add-chunk-sad c = omega (arith, inside c)
 chunk-sad-requires : tie.Need-chunk-sad-requires Inv-loop μ-loop
 chunk-sad-requires c κs = let h = inside c in search needs
 
--- a turn's sum, and its bound
+-- a turn's sum, which fits
 next : (c : tie.After-chunk-sad Inv-loop μ-loop)
     → let l = c .before .before in
     let s = l .before .before .before .args in
-    let more = gapsFrom (s .a .now) (s .b .now) (s .from) ((l .loop .c + 1) * s .n) in
-    (l .loop .sum + c .chunk-sad .result ≡ more) × (more ≤ (l .loop .c + 1) * s .n * 255)
+    let sum = l .loop .sum + c .chunk-sad .result in
+    (sum ≡ gapsFrom (s .a .now) (s .b .now) (s .from) ((l .loop .c + 1) * s .n)) × (sum < 2 ^ 32)
 next c =
     let l = c .before .before in
-    let s = l .before .before .before .args in (
-      omega (arith, chunk-more (s .a .now) (s .b .now) (s .from) (l .loop .c) (s .n)),
-      gaps-most 255 (s .a .now) (s .b .now)
-          (λ i. omega (arith, l .before .before .shared-slice-known .given i))
-          (λ i. omega (arith, l .before .shared-slice-known2 .given i))
-          (s .from) ((l .loop .c + 1) * s .n),
-    )
+    let s = l .before .before .before .args in
+    chunks-turn byteMost (s .a .now) (s .b .now)
+    (λ i. omega (arith, l .before .before .shared-slice-known .given i))
+    (λ i. omega (arith, l .before .shared-slice-known2 .given i))
+    (s .from) (s .n) (2 ^ 32) (omega arith) (l .loop .c) (l .loop .sum) (c .chunk-sad .result) (omega (arith, inside (c .before)))
+    (l .loop .inv .1) (c .chunk-sad .ensures)
 
 cast-sum : tie.Need-cast-sum Inv-loop μ-loop
 cast-sum c = search needs
 
 add-sum : tie.Need-add-sum Inv-loop μ-loop
-add-sum c = let h = next c in let i = inside (c .before) in omega arith
+add-sum c = record { fits = next c .1 }
 
 add-c : tie.Need-add-c Inv-loop μ-loop
 add-c c = search needs

@@ -1,14 +1,15 @@
 -- `sad::row_sad` meets its contract: a row is its chunks, the small chunks of what is left, and the rest, each cut off where the one before it ends.
 -- Assumes nothing.
 use mathlib.Core.Path.{_≡_, _∙_}
-use Prim.Native.Nat.{ℕ, _+_, _*_, _≤_, _-_, _/_}
+use Prim.Native.Nat.{ℕ, _+_, _*_, _^_, _≤_, _<_, _-_, _/_}
 use native.Mathlib.Omega.{arith}
 use borrow.Author.Needs.{needs}
 use lib.ListN.{length}
+use Rattle.sums.specs.Needs.{byteMost}
 use Rattle.sums.specs.Sums.{sumBelow}
 use Rattle.sums.proofs.SumLaws.{sum-to}
 use Rattle.sad.specs.Difference.{gapAt}
-use Rattle.sad.proofs.SadLaws.{gaps-most, row-from, row-more}
+use Rattle.sad.proofs.SadLaws.{row-fits, row-from, row-more}
 use Rattle.sad.proofs.row_sad.Statement.{statement}
 use Rattle.sad.proofs.row_sad.Tie as tie
 
@@ -38,14 +39,13 @@ last s = let n = length (s .args .a .now) in n / 32 * 32 + (n - n / 32 * 32) / 8
 abbrev row : tie.Start → ℕ → ℕ
 row s n = sumBelow n (gapAt (s .args .a .now) (s .args .b .now))
 
-row-most : (c : tie.After-shared-slice-known2) (n : ℕ) → row (c .before .before) n ≤ n * 255
-row-most c n =
+row-most : (c : tie.After-shared-slice-known2) (n : ℕ) → n ≤ length (c .before .before .args .a .now) → row (c .before .before) n < 2 ^ 32
+row-most c n h =
     let s = c .before .before .args in
-    rw (← row-from (s .a .now) (s .b .now) n)
-    (gaps-most 255 (s .a .now) (s .b .now)
+    row-fits byteMost (s .a .now) (s .b .now)
     (λ i. omega (arith, c .before .shared-slice-known .given i))
     (λ i. omega (arith, c .shared-slice-known2 .given i))
-    0 n)
+    n (2 ^ 32) (omega arith) (omega arith)
 
 -- both kinds of chunks, and then all of the row
 chunked : (c : tie.After-chunks-sad2)
@@ -63,7 +63,7 @@ whole c =
     sum-to _ _ _ _ (row-more (s .a .now) (s .b .now) _ _ _ _ (chunked (c .before)) (c .chunks-sad3 .ensures)) (omega arith)
 
 add-sum : tie.Need-add-sum
-add-sum c = omega (arith, chunked c, row-most (c .before .before) (last (c .before .before .before .before)))
+add-sum c = omega (arith, chunked c, row-most (c .before .before) (last (c .before .before .before .before)) (omega arith))
 
 sub-chunks-sad : tie.Need-sub-chunks-sad
 sub-chunks-sad c = search needs
@@ -72,7 +72,7 @@ chunks-sad-requires-3 : tie.Need-chunks-sad-requires-3
 chunks-sad-requires-3 c κs = search needs
 
 add-result : tie.Need-add-result
-add-result c = let s = c .before .before .before .before .before in omega (arith, whole c, row-most (c .before .before .before) (length (s .args .a .now)))
+add-result c = let s = c .before .before .before .before .before in omega (arith, whole c, row-most (c .before .before .before) (length (s .args .a .now)) (omega arith))
 
 returns : tie.Need-returns
 returns c = whole c

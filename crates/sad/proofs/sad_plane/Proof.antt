@@ -1,14 +1,15 @@
 -- `sad::sad_plane` meets its contract. After y turns the total is that of the first y rows, which by the planes' largest size fits. Assumes nothing.
 use mathlib.Core.Path.{_≡_, ap, _∙_}
-use Prim.Native.Nat.{_+_, _*_, _≤_, _-_}
+use Prim.Native.Nat.{_^_, _≤_, _-_}
 use native.Mathlib.Omega.{arith}
 use borrow.Author.Needs.{needs}
 use lib.ListN.{length}
-use Rattle.plane.proofs.PlaneLaws.{Pair, pair, length-row, total-fits}
+use Rattle.plane.proofs.PlaneLaws.{Pair, pair}
+use Rattle.sums.specs.Needs.{byteMost}
 use Rattle.sums.specs.Sums.{sumBelow}
-use Rattle.sums.proofs.SumLaws.{sum-none, sum-more, sum-to}
+use Rattle.sums.proofs.SumLaws.{Turn, sum-none, sum-to}
 use Rattle.sad.specs.Difference.{rowSad, planeSad}
-use Rattle.sad.proofs.SadLaws.{rows-most, row-sad-is}
+use Rattle.sad.proofs.SadLaws.{rows-turn, row-lengths, row-sad-is}
 use Rattle.sad.proofs.sad_plane.Statement.{statement}
 use Rattle.sad.proofs.sad_plane.Tie as tie
 
@@ -31,49 +32,38 @@ row-requires-2 c κs = search needs
 planes : (c : tie.In-loop Inv-loop μ-loop) → let s = c .before .before .before .before .args in Pair (s .p) (length (s .a .now)) (s .q) (length (s .b .now))
 planes c = pair _ _ _ _ (c .before .before .before .before .pre)
 
--- so their rows are as long as they are wide
+-- so their rows are as long as the first is wide
 lengths : (c : tie.After-row2 Inv-loop μ-loop)
-    → let s = c .before .before .before .before .before .before .args in
-    (length (c .before .row .result .now) ≡ s .p .width) × (length (c .row2 .result .now) ≡ s .q .width)
+    → let width = c .before .before .before .before .before .before .args .p .width in
+    (length (c .before .row .result .now) ≡ width) × (length (c .row2 .result .now) ≡ width)
 lengths c =
     let s = c .before .before .before .before .before .before .args in
-    let h = planes (c .before .before) in (
-      ap length (c .before .row .ensures) ∙ length-row (s .p) _ _ (h .first) (omega arith),
-      ap length (c .row2 .ensures) ∙ length-row (s .q) _ _ (h .second) (omega arith),
-    )
+    let l = row-lengths (s .p) (s .a .now) (s .q) (s .b .now) (c .before .before .before .loop .y) (planes (c .before .before)) (omega arith) in
+    (ap length (c .before .row .ensures) ∙ l .0, ap length (c .row2 .ensures) ∙ l .1)
 
 row-sad-requires : tie.Need-row-sad-requires Inv-loop μ-loop
 row-sad-requires c κs = let l = lengths c in let h = planes (c .before .before) in omega arith
 
--- a turn's total, and its bound
 next : (c : tie.After-row-sad Inv-loop μ-loop)
     → let l = c .before .before .before .before in
     let s = l .before .before .before .args in
-    let more = sumBelow (l .loop .y + 1) (rowSad (s .p) (s .a .now) (s .q) (s .b .now)) in
-    (l .loop .total + c .row-sad .result ≡ more) × (more ≤ (l .loop .y + 1) * (s .p .width * 255))
+    Turn (2 ^ 42) (l .loop .y) (l .loop .total) (c .row-sad .result) (rowSad (s .p) (s .a .now) (s .q) (s .b .now))
 next c =
     let l = c .before .before .before .before in
     let s = l .before .before .before .args in
     let h = planes (c .before .before .before) in
-    let one : c .row-sad .result ≡ rowSad (s .p) (s .a .now) (s .q) (s .b .now) (l .loop .y) =
-    sum-to _ _ _ _ (rw (c .before .before .row .ensures, c .before .row2 .ensures) at (c .row-sad .ensures)) (length-row (s .p) _ _ (h .first) (omega arith))
-    ∙ row-sad-is (s .p) (s .a .now) (s .q) (s .b .now) (l .loop .y) (h .first) (h .second) (omega arith) (omega arith) (h .widths) in (
-      omega (arith, sum-more (l .loop .y) (rowSad (s .p) (s .a .now) (s .q) (s .b .now))),
-      rows-most 255 (s .a .now) (s .b .now)
-          (λ i. omega (arith, l .before .before .shared-slice-known .given i))
-          (λ i. omega (arith, l .before .shared-slice-known2 .given i))
-          (s .p) (s .q) (l .loop .y + 1),
-    )
+    rows-turn byteMost (s .a .now) (s .b .now)
+    (λ i. omega (arith, l .before .before .shared-slice-known .given i))
+    (λ i. omega (arith, l .before .shared-slice-known2 .given i))
+    (s .p) (s .q) (omega arith) (h .first) (l .loop .y) (l .loop .total) (c .row-sad .result) (omega arith) (l .loop .inv .2)
+    (row-sad-is (s .p) (s .a .now) (s .q) (s .b .now) (l .loop .y) h (omega arith) _
+    (rw (c .before .before .row .ensures, c .before .row2 .ensures) at (c .row-sad .ensures)))
 
 cast-total : tie.Need-cast-total Inv-loop μ-loop
 cast-total c = search needs
 
 add-total : tie.Need-add-total Inv-loop μ-loop
-add-total c =
-    let l = c .before .before .before .before in
-    let h = planes (c .before .before .before) .first in
-    let n = next c in
-    omega (arith, total-fits (l .loop .y + 1) (l .before .before .before .args .p .width) 255 (omega arith) (h .width-most) (omega arith))
+add-total c = omega (arith, next c .1)
 
 add-y : tie.Need-add-y Inv-loop μ-loop
 add-y c = search needs

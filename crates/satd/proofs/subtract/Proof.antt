@@ -1,25 +1,22 @@
 -- `satd::subtract` meets its contract. The loop's invariant: the places passed hold the differences. Assumes nothing.
-use mathlib.Core.Path.{_≡_, _∙_}
-use Prim.Native.Nat.{ℕ, _*_, _-_, _≤_, _<_}
+use mathlib.Core.Path.{_∙_}
+use Prim.Native.Nat.{_-_, _≤_}
 use native.Mathlib.Omega.{arith}
 use borrow.Author.Needs.{needs, sfits-of}
-use lib.IntN.{pos}
-use lib.ListN.{length, getD, length-set}
 use mir.Facts.{toZ-ofZ}
-use Rattle.sums.proofs.TableLaws.{is-table, one-filled}
-use Rattle.satd.specs.Satd.{side, difference}
+use Rattle.satd.specs.Satd.{blockSize}
+use Rattle.satd.proofs.SatdLaws.{Subtracted, subtracted-none, subtracted-more, subtracted-all}
 use Rattle.satd.proofs.subtract.Statement.{statement}
 use Rattle.satd.proofs.subtract.Tie as tie
 
 abbrev Inv-loop : tie.InvT-loop
-Inv-loop first second block₀ i₀ block i =
-    (i ≤ side * side) × (length block ≡ side * side) × ((t : ℕ) → t < i → getD block t (pos 0) ≡ difference first second t)
+Inv-loop first second block₀ i₀ block i = (i ≤ blockSize) × Subtracted first second i block
 
 abbrev μ-loop : tie.MeasureT-loop
-μ-loop first second block₀ i₀ block i = side * side - i
+μ-loop first second block₀ i₀ block i = blockSize - i
 
 loop-holds : tie.Need-loop-holds Inv-loop μ-loop
-loop-holds c = (search needs, search needs, λ t h. absurd (omega arith))
+loop-holds c = (search needs, subtracted-none _ _ _ (c .before .before .pre .1 .1))
 
 shared-slice-read-gap : tie.Need-shared-slice-read-gap Inv-loop μ-loop
 shared-slice-read-gap c = search needs
@@ -44,21 +41,14 @@ loop-less c = search needs
 
 loop-again : tie.Need-loop-again Inv-loop μ-loop
 loop-again c =
-    let l = c .before .before .before .before in
-    let s = l .before .before .before .args in (
-      search needs,
-      simp length-set (l .loop .inv .1),
-      one-filled (pos 0) (difference (s .first .now) (s .second .now)) (l .loop .block) (l .loop .i) _ (omega arith) (l .loop .inv .2) (toZ-ofZ (sfits-of (c .gap .ok)) ∙ c .gap .ensures),
-    )
+    let l = c .before .before .before .before .loop in
+    (search needs, subtracted-more _ _ (l .i) (l .block) _ (l .inv .1) (omega arith) (toZ-ofZ (sfits-of (c .gap .ok)) ∙ c .gap .ensures))
 
 same-length : tie.Need-same-length Inv-loop μ-loop
-same-length c = omega (arith, c .before .loop .inv .1, c .before .before .before .before .pre .1 .1)
+same-length c = omega (arith, c .before .loop .inv .1 .size, c .before .before .before .before .pre .1 .1)
 
 returns : tie.Need-returns Inv-loop μ-loop
-returns c =
-    let l = c .before in
-    let s = l .before .before .before .args in
-    is-table (pos 0) (side * side) (difference (s .first .now) (s .second .now)) (l .loop .block) (l .loop .inv .1) (λ t h. l .loop .inv .2 t (omega arith))
+returns c = subtracted-all _ _ _ _ (c .before .loop .inv .1) (omega arith)
 
 pub subtract-spec : {M : Type 1} → statement M
 subtract-spec =

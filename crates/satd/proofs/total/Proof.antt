@@ -1,24 +1,25 @@
 -- `satd::total` meets its contract. The loop's invariant: the absolute values passed are added, and each is small enough that the sum fits.
 -- Assumes nothing.
 use mathlib.Core.Path.{_≡_}
-use Prim.Native.Nat.{ℕ, _*_, _-_, _≤_}
+use Prim.Native.Nat.{ℕ, _*_, _-_, _≤_, _^_}
 use native.Mathlib.Omega.{arith}
 use borrow.Author.Needs.{needs}
 use lib.IntN.{pos, natAbs}
 use lib.ListN.{getD}
 use Rattle.sums.specs.Sums.{sumBelow}
-use Rattle.sums.proofs.SumLaws.{sum-none, sum-more, sum-most, sum-to}
+use Rattle.sums.proofs.SumLaws.{sum-none, sum-to, Turn, turn}
 use Rattle.hadamard.specs.Transform.{entryMost}
 use Rattle.hadamard.proofs.SignedLaws.{read-at}
-use Rattle.satd.specs.Satd.{side}
+use Rattle.plane.specs.Blocks.{blockSide}
+use Rattle.satd.specs.Satd.{blockSize}
 use Rattle.satd.proofs.total.Statement.{statement}
 use Rattle.satd.proofs.total.Tie as tie
 
 abbrev Inv-loop : tie.InvT-loop
-Inv-loop block sum₀ i₀ sum i = (i ≤ side * side) × (sum ≡ sumBelow i (λ (t : ℕ). natAbs (getD block t (pos 0))))
+Inv-loop block sum₀ i₀ sum i = (i ≤ blockSize) × (sum ≡ sumBelow i (λ (t : ℕ). natAbs (getD block t (pos 0))))
 
 abbrev μ-loop : tie.MeasureT-loop
-μ-loop block sum₀ i₀ sum i = side * side - i
+μ-loop block sum₀ i₀ sum i = blockSize - i
 
 loop-holds : tie.Need-loop-holds Inv-loop μ-loop
 loop-holds c = (search needs, sum-none _)
@@ -42,12 +43,16 @@ told c =
     let l = c .before .before .before in
     rw (read-at (l .before .args .block .now) (l .loop .i) (c .before .magnitude-arg .given)) at (c .magnitude .ensures)
 
-add-sum : tie.Need-add-sum Inv-loop μ-loop
-add-sum c =
+-- the next sum, and that it fits
+next : (c : tie.After-magnitude Inv-loop μ-loop)
+    → let l = c .before .before .before in
+    Turn (2 ^ 32) (l .loop .i) (l .loop .sum) (c .magnitude .result) (λ (t : ℕ). natAbs (getD (l .before .args .block .now) t (pos 0)))
+next c =
     let l = c .before .before .before in
-    let w = l .before .pre .1 in
-    let i = l .loop .i in
-    omega (arith, told c, w .most i, l .loop .inv, sum-most (side * (side * entryMost)) i (λ (t : ℕ). natAbs (getD (l .before .args .block .now) t (pos 0))) (λ t _. w .most t))
+    turn (blockSide * (blockSide * entryMost)) blockSize (2 ^ 32) _ (λ t _. l .before .pre .1 .most t) (omega arith) (l .loop .i) _ _ (omega arith) (l .loop .inv .1) (told c)
+
+add-sum : tie.Need-add-sum Inv-loop μ-loop
+add-sum c = omega (arith, next c .1)
 
 add-i : tie.Need-add-i Inv-loop μ-loop
 add-i c = search needs
@@ -56,12 +61,10 @@ loop-less : tie.Need-loop-less Inv-loop μ-loop
 loop-less c = search needs
 
 loop-again : tie.Need-loop-again Inv-loop μ-loop
-loop-again c =
-    let l = c .before .before .before in
-    (search needs, omega (arith, told c, l .loop .inv .1, sum-more (l .loop .i) (λ (t : ℕ). natAbs (getD (l .before .args .block .now) t (pos 0)))))
+loop-again c = (search needs, next c .0)
 
 returns : tie.Need-returns Inv-loop μ-loop
-returns c = let l = c .before in sum-to (l .loop .sum) (l .loop .i) (side * side) (λ (t : ℕ). natAbs (getD (l .before .args .block .now) t (pos 0))) (l .loop .inv .1) (omega arith)
+returns c = sum-to _ _ _ _ (c .before .loop .inv .1) (omega arith)
 
 pub total-spec : {M : Type 1} → statement M
 total-spec =

@@ -3,7 +3,7 @@ use mathlib.Core.Path.{ap, _∙_}
 use borrow.Author.Needs.{needs, sfits-of}
 use mir.Facts.{toZ-ofZ}
 use Rattle.answer.specs.Answer.{wholeAnswer}
-use Rattle.brinepulley.proofs.Numbers.{given-small, given-coded}
+use Rattle.brinepulley.proofs.Numbers.{given-fits, given-coded}
 use Rattle.brinepulley.proofs.code.whole.Statement.{statement}
 use Rattle.brinepulley.proofs.code.whole.Tie as tie
 
@@ -11,7 +11,7 @@ enum-known-answer : tie.Need-enum-known-answer
 enum-known-answer c = search needs
 
 cast-result : tie.Need-cast-result
-cast-result c = record { sfits = given-small _ _ (ap wholeAnswer (c .before .answer .given .1)) (c .before .before .before .pre) }
+cast-result c = record { sfits = given-fits _ _ (ap wholeAnswer (c .before .answer .given .1)) (c .before .before .before .pre) }
 
 enum-known-answer-2 : tie.Need-enum-known-answer-2
 enum-known-answer-2 c = search needs

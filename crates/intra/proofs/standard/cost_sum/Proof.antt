@@ -1,14 +1,18 @@
 -- `standard::cost_sum` meets its contract. After k turns the sum is that of the first k costs, and 2 ^ 32 of them fit a u64. Assumes nothing.
-use mathlib.Core.Path.{_≡_}
-use Prim.Native.Nat.{ℕ, _+_, _*_, _≤_, _-_}
+use mathlib.Core.Path.{_≡_, refl}
+use Prim.Native.Nat.{ℕ, _≤_, _-_, _^_}
 use native.Mathlib.Omega.{arith}
 use borrow.Author.Needs.{needs}
 use lib.ListN.{getD}
 use Rattle.sums.specs.Sums.{sumBelow}
-use Rattle.sums.proofs.SumLaws.{sum-none, sum-more, sum-most, sum-to}
+use Rattle.sums.proofs.SumLaws.{sum-none, sum-to, Turn, turn}
 use Rattle.intra.specs.Threshold.{costSum}
 use Rattle.intra.proofs.standard.cost_sum.Statement.{statement}
 use Rattle.intra.proofs.standard.cost_sum.Tie as tie
+
+-- the largest cost that a u32 holds
+abbrev costMost : ℕ
+costMost = 4294967295
 
 abbrev Inv-loop : tie.InvT-loop
 Inv-loop costs count sum₀ k₀ sum k = (k ≤ count) × (sum ≡ sumBelow k (λ (n : ℕ). getD costs n 0))
@@ -28,21 +32,18 @@ shared-slice-read-sum c = let p = c .before .before .before .pre in omega arith
 cast-sum : tie.Need-cast-sum Inv-loop μ-loop
 cast-sum c = omega (arith, c .shared-slice-known .given (c .before .before .loop .k))
 
--- a turn's sum, and its bound
+-- a turn's sum, and that it fits
 next : (c : tie.After-shared-slice-known Inv-loop μ-loop)
     → let l = c .before .before in
     let s = l .before .args .costs .now in
-    let more = sumBelow (l .loop .k + 1) (λ (n : ℕ). getD s n 0) in
-    (l .loop .sum + getD s (l .loop .k) 0 ≡ more) × (more ≤ (l .loop .k + 1) * 4294967295)
+    Turn (2 ^ 64) (l .loop .k) (l .loop .sum) (getD s (l .loop .k) 0) (λ (n : ℕ). getD s n 0)
 next c =
     let l = c .before .before in
-    let s = l .before .args .costs .now in (
-      omega (arith, sum-more (l .loop .k) (λ (n : ℕ). getD s n 0)),
-      sum-most 4294967295 (l .loop .k + 1) (λ (n : ℕ). getD s n 0) (λ i _. omega (arith, c .shared-slice-known .given i)),
-    )
+    let s = l .before in
+    turn costMost (s .args .count) (2 ^ 64) (λ (n : ℕ). getD (s .args .costs .now) n 0) (λ i _. omega (arith, c .shared-slice-known .given i)) (omega (arith, s .pre)) (l .loop .k) _ _ (omega arith) (l .loop .inv .1) refl
 
 add-sum : tie.Need-add-sum Inv-loop μ-loop
-add-sum c = let h = next c in let p = c .before .before .before .pre in omega arith
+add-sum c = omega (arith, next c .1)
 
 add-k : tie.Need-add-k Inv-loop μ-loop
 add-k c = search needs

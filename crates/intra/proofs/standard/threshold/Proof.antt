@@ -1,29 +1,39 @@
 -- `standard::threshold` meets its contract: a short list and one too long are refused, and else the mean is multiplied by 1.0 − 0.7 as the float literals give it. Assumes nothing.
 use mathlib.Core.Path.{_≡_, refl, ap, _∙_}
-use Prim.Native.Nat.{ℕ}
+use mathlib.Core.Bool.{_&&_}
+use Prim.Native.Nat.{ℕ, _≤_, _<_, _^_}
+use native.Mathlib.Omega.{arith}
 use borrow.Author.Needs.{needs}
 use borrow.Author.Tests.{lt-leb, le-leb, lt-ltb, le-ltb}
+use lib.Dec.{leb, ltb}
 use lib.Ieee.{Float, binary64, ofBits, round, mul, sub}
-use lib.ListN.{length}
-use Rattle.answer.specs.Answer.{answered}
-use Rattle.answer.specs.Refusal.{_orElse_}
-use Rattle.answer.proofs.Laws.{answer-given}
+use Rattle.answer.specs.Refusal.{refusal}
+use Rattle.answer.proofs.Laws.{test-given, test-first, test-passed, test-later, answer-given, answer-refused}
 use Rattle.sums.specs.Quotient.{quotientOf}
 use Rattle.intra.specs.Threshold.{one, bias, thresholdFault}
 use Rattle.intra.proofs.standard.threshold.Statement.{statement}
 use Rattle.intra.proofs.standard.threshold.Tie as tie
 
+-- the refusals, of a list with n costs
+module _ (n count : ℕ) where
+  short : n < count → 4 ≡ thresholdFault n count
+  unfolding thresholdFault
+  short h = test-later 1 4 (refusal 4 (ltb n count)) (leb count n && ltb (2 ^ 32) count) (rw (lt-leb count n h)) (test-given 4 (ltb n count) (lt-ltb n count h))
+
+  many : count ≤ n → 2 ^ 32 < count → 1 ≡ thresholdFault n count
+  unfolding thresholdFault
+  many h k = test-first 0 (refusal 4 (ltb n count)) (leb count n && ltb (2 ^ 32) count) (rw (le-leb count n h, lt-ltb (2 ^ 32) count k))
+
+  none : count ≤ n → count ≤ 2 ^ 32 → 0 ≡ thresholdFault n count
+  unfolding thresholdFault
+  none h k =
+      test-later 1 0 (refusal 4 (ltb n count)) (leb count n && ltb (2 ^ 32) count) (rw (le-leb count n h, le-ltb (2 ^ 32) count k)) (test-passed 4 (ltb n count) (le-ltb n count h))
+
 returns : tie.Need-returns
-unfolding answered thresholdFault _orElse_
-returns c =
-    let s = c .before .before .args in
-    rw (lt-leb (s .count) (length (s .costs .now)) (c .if1 .taken), lt-ltb (length (s .costs .now)) (s .count) (c .if1 .taken))
+returns c = answer-refused 4 _ _ (short _ _ (c .if1 .taken)) (λ e. omega arith)
 
 returns-2 : tie.Need-returns-2
-unfolding answered thresholdFault _orElse_
-returns-2 c =
-    let s = c .before .before .before .args in
-    rw (le-leb (s .count) (length (s .costs .now)) (c .before .if1 .left), lt-ltb 4294967296 (s .count) (c .if2 .taken))
+returns-2 c = answer-refused 1 _ _ (many _ _ (c .before .if1 .left) (c .if2 .taken)) (λ e. omega arith)
 
 cost-sum-requires : tie.Need-cost-sum-requires
 cost-sum-requires c κs = search needs
@@ -40,16 +50,10 @@ bias-is : ofBits binary64 4604480259023595110 ≡ bias
 unfolding ofBits round
 bias-is = refl
 
-none : (c : tie.Else2) → let s = c .before .before .before .args in 0 ≡ thresholdFault (length (s .costs .now)) (s .count)
-unfolding thresholdFault _orElse_
-none c =
-    let s = c .before .before .before .args in
-    rw (le-leb (s .count) (length (s .costs .now)) (c .before .if1 .left), le-ltb 4294967296 (s .count) (c .if2 .left), le-ltb (length (s .costs .now)) (s .count) (c .before .if1 .left))
-
 returns-3 : tie.Need-returns-3
 returns-3 c =
     let s = c .before .before .before .before .before .args in
-    answer-given _ _ _ (none (c .before .before))
+    answer-given _ _ _ (none _ _ (c .before .before .before .if1 .left) (c .before .before .if2 .left))
     (rw (one-is, bias-is)
     (ap (λ (x : Float). mul binary64 x (sub binary64 one bias)) (c .quotient .ensures ∙ ap (λ (n : ℕ). quotientOf n (s .count)) (c .before .cost-sum .ensures))))
 

@@ -2,7 +2,7 @@
 use mathlib.Core.Path.{_≡_, sym, _∙_}
 use mathlib.Core.Bool.{false}
 use borrow.Author.Needs.{needs}
-use Rattle.plane.specs.Planes.{badShape}
+use Rattle.plane.specs.Planes.{badPlane}
 use Rattle.plane.proofs.PlaneLaws.{fault-shape, fault-short, fault-none, shape}
 use Rattle.plane.proofs.Plane.fault.Statement.{statement}
 use Rattle.plane.proofs.Plane.fault.Tie as tie
@@ -14,12 +14,12 @@ bad-side-requires-2 : tie.Need-bad-side-requires-2
 bad-side-requires-2 c κs = search needs
 
 returns : tie.Need-returns
-unfolding badShape
+unfolding badPlane
 returns c = fault-shape _ _ (rw (c .before .before .bad-side .ensures, c .before .bad-side2 .ensures) at (c .if1 .taken))
 
 -- past the first test the shape is good
-good : (c : tie.Else1) → badShape (c .before .before .before .args .self) ≡ false
-unfolding badShape
+good : (c : tie.Else1) → badPlane (c .before .before .before .args .self) ≡ false
+unfolding badPlane
 good c = rw (c .before .before .bad-side .ensures, c .before .bad-side2 .ensures) at (c .if1 .left)
 
 sub-row-lies : tie.Need-sub-row-lies
