@@ -1,10 +1,18 @@
-// Writes the values of document 01's "Values at the edges" that have no star, one to a line: a number, or the bits of a float.
+// Writes the values of document 01's "Values at the edges" that have no star, and values that tell its rules from other readings of
+// them, one to a line: a number, or the bits of a float.
 use answer::Real;
 use answer::Whole;
 use detector::Decision;
 use detector::StepAnswer;
+use detector::Stepped;
+use detector::runs;
 use plane::Plane;
+use scale::Sides;
+use score::Measure;
+use score::ScoreDeque;
+use score::scoring;
 use settings::Settings;
+use state::State;
 
 const OUT: i32 = 1;
 
@@ -98,19 +106,24 @@ fn put_blocks() {
     put_real(importance::importance(DEPTH, narrow, &dark, narrow, &light));
 }
 
-// The first call of a detector with lookahead 5, every list alike.
-fn put_step(length: usize, n: u64, list: &[f64]) {
+// A fresh detector in Standard mode.
+fn fresh(lookahead: usize) -> State {
     let settings = Settings {
         width: 64,
         height: 64,
         bit_depth: 8,
-        lookahead_distance: 5,
+        lookahead_distance: lookahead,
         mode: STANDARD,
         min_key_frame_interval: 0,
         max_key_frame_interval: 100,
     };
     let fresh = detector::fresh(settings);
-    let state = fresh.state;
+    fresh.state
+}
+
+// The first call of a detector with lookahead 5, every list alike.
+fn put_step(length: usize, n: u64, list: &[f64]) {
+    let state = fresh(5);
     let stepped = detector::step(state, length, n, 0, list, list, list);
     let answer = stepped.answer;
     put_answer(answer);
@@ -128,8 +141,140 @@ fn put_steps() {
     put_step(7, 1, &six);
 }
 
+// "Reduced sides are the sides divided by the factor, rounded down."
+fn put_sides() {
+    put(b"241x243, reduced: ");
+    match scale::reduced_sides(241, 243, MODE_FAST) {
+        Sides::Reduced { width, height } => {
+            io::print_decimal(OUT, width as u64);
+            put(b"x");
+            io::print_decimal(OUT, height as u64);
+            put(b"\n");
+        }
+        Sides::Refused(f) => put_refusal(f),
+    }
+}
+
+// A plane that starts at the first sample and has no gap between its rows.
+fn whole_plane(width: usize, height: usize) -> Plane {
+    Plane {
+        width,
+        height,
+        stride: width,
+        origin: 0,
+    }
+}
+
+// "Two planes: the first plane's 1 and 2, then the second's"; and 3 before 4.
+fn put_planes() {
+    let samples = [0u8; 128];
+    let mut work = [0u8; 128];
+    let mut costs = [0u32; 1];
+    let long = whole_plane(16, 9);
+    let none = whole_plane(0, 8);
+    put(b"2 of the first plane, 1 of the second: ");
+    put_whole(importance::importance_total(DEPTH, long, &samples, none, &samples));
+    let wide = whole_plane(16, 8);
+    let narrow = whole_plane(8, 8);
+    put(b"3 of two planes, 4 of the cost list: ");
+    put_whole(intra::estimate_intra_costs(DEPTH, wide, &samples, narrow, &mut work, &mut costs));
+}
+
+// 8 before 9: one frame after an empty set. Every list is empty.
+fn put_after_empty(none: &[f64]) {
+    let state = fresh(0);
+    let first = detector::step(state, 0, 1, 0, none, none, none);
+    let empty = first.state;
+    let second = detector::step(empty, 1, 2, 0, none, none, none);
+    let answer = second.answer;
+    put_answer(answer);
+}
+
+// 9 before 10: one frame, with lists that should be empty.
+fn put_alone(list: &[f64]) {
+    let state = fresh(0);
+    let stepped = detector::step(state, 1, 1, 0, list, list, list);
+    let answer = stepped.answer;
+    put_answer(answer);
+}
+
+fn put_orders() {
+    let one = [1.0];
+    put(b"Standard, lookahead 0, L 1 after L 0, 8 and 9: ");
+    put_after_empty(&one[0..0]);
+    put(b"Standard, lookahead 0, L 1 with one item, 9 and 10: ");
+    put_alone(&one);
+}
+
+// "If o > 0, backward becomes 0 for pair 1": the walk alone is left out, and the entries before it take their forward costs.
+fn put_pair_one() {
+    let own = Measure {
+        inter: 9.0,
+        importance: 0.0,
+        threshold: 0.0,
+    };
+    let new = Measure {
+        inter: 5.0,
+        importance: 0.0,
+        threshold: 0.0,
+    };
+    let empty = ScoreDeque::empty();
+    let before = scoring::run_comparison(false, 18.0, 1, 7, own, empty);
+    let after = scoring::run_comparison(false, 18.0, 1, 1, new, before);
+    let entry = after.entry(1);
+    put(b"inter cost 9, then 5 as pair 1, forward of the first: ");
+    put_float(entry.forward_adjusted_cost);
+}
+
+// What was measured of the pair that a step decides on.
+fn put_measures(d: Decision) {
+    match d {
+        Decision::Bare(_cut) => put(b"no score\n"),
+        Decision::Scored(_cut, score) => {
+            put_float(score.inter_cost);
+            put_float(score.imp_block_cost);
+            put_float(score.threshold);
+        }
+    }
+}
+
+// Two calls over a film, lookahead 0: the second reads from the second place on.
+fn put_run() {
+    let numbers = [1, 2];
+    let lengths = [2, 2];
+    let keyframes = [0, 0];
+    let inter = [1.0, 2.0, 3.0];
+    let importance = [4.0, 5.0, 6.0];
+    let threshold = [7.0, 8.0, 9.0];
+    let state = fresh(0);
+    let start = Stepped {
+        answer: StepAnswer::Decided(Decision::Bare(false)),
+        state,
+    };
+    let last = runs::run(
+        start,
+        &numbers,
+        &lengths,
+        &keyframes,
+        &inter,
+        &importance,
+        &threshold,
+    );
+    put(b"Standard, lookahead 0, a run of two calls, the last one's three numbers:\n");
+    let answer = last.answer;
+    match answer {
+        StepAnswer::Decided(d) => put_measures(d),
+        StepAnswer::Refused(f) => put_refusal(f),
+    }
+}
+
 fn main() {
     put_edges();
+    put_sides();
     put_blocks();
+    put_planes();
     put_steps();
+    put_orders();
+    put_pair_one();
+    put_run();
 }
