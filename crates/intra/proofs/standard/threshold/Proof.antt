@@ -10,7 +10,7 @@ use lib.Ieee.{binary64, ofBits, round, mul, sub}
 use Rattle.answer.specs.Refusal.{refusal}
 use Rattle.answer.proofs.Laws.{test-given, test-first, test-passed, test-later, answer-given, answer-refused}
 use Rattle.sums.specs.Quotient.{quotientOf}
-use Rattle.intra.specs.Threshold.{one, bias, thresholdFault}
+use Rattle.intra.specs.Threshold.{oneF, bias, thresholdFault}
 use Rattle.intra.proofs.standard.threshold.Statement.{statement}
 use Rattle.intra.proofs.standard.threshold.Tie as tie
 
@@ -42,7 +42,7 @@ quotient-requires : tie.Need-quotient-requires
 quotient-requires c κs = search needs
 
 -- the literals are the definition's numbers
-one-is : ofBits binary64 4607182418800017408 ≡ one
+one-is : ofBits binary64 4607182418800017408 ≡ oneF
 unfolding ofBits round
 one-is = refl
 
