@@ -11,6 +11,6 @@ abbrev pub gapsFrom : List ℕ → List ℕ → ℕ → ℕ → ℕ
 gapsFrom a b at n = sumBelow n (λ (i : ℕ). gapAt a b (at + i))
 
 -- two rows of one length that reach as far as n
-pub record Reach (a b : List ℕ) (n : ℕ) : Type 0 where
+pub record LongRows (a b : List ℕ) (n : ℕ) : Type 0 where
   pub lengths : length a ≡ length b
   pub far : n ≤ length a
