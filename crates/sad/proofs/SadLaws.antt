@@ -10,8 +10,8 @@ use Rattle.plane.specs.Planes.{maxSide, sampleAt, rowOf, pairFault}
 use Rattle.plane.proofs.PlaneLaws.{Lies, Pair, length-row, row-at, pair, measured, total-fits}
 use Rattle.sums.specs.Sums.{sumBelow, apart}
 use Rattle.sums.proofs.SumLaws.{NextSum, next-sum, sum-ext, sum-most, sum-cut, sum-to}
-use Rattle.sad.specs.Difference.{gapAt, rowSad, planeSad}
-use Rattle.sad.specs.Needs.{gapsFrom}
+use Rattle.sad.specs.Difference.{rowSad, planeSad}
+use Rattle.sad.specs.Needs.{gapAt, gapsFrom}
 
 -- a part of two rows cut in two, and chunk after chunk
 module _ (a b : List ℕ) (at : ℕ) where

@@ -9,8 +9,8 @@ ghost use Rattle.answer.specs.Answer.{wholeAnswer, realAnswer};
 ghost use Rattle.plane.specs.Planes.{maxSide, sizesFault};
 ghost use Rattle.sums.specs.Needs.{byteMost};
 ghost use Rattle.sums.specs.Sums.{sumBelow};
-ghost use Rattle.sad.specs.Difference.{gapAt, planeSad, differenceOf, deltaOf};
-ghost use Rattle.sad.specs.Needs.{gapsFrom, LongRows};
+ghost use Rattle.sad.specs.Difference.{planeSad, differenceOf, deltaOf};
+ghost use Rattle.sad.specs.Needs.{gapAt, gapsFrom, LongRows};
 
 // A row is taken in chunks of CHUNK samples, what is left of it in chunks of SMALL_CHUNK, and the last few one by one.
 const CHUNK: usize = 32;

@@ -5,8 +5,7 @@ use native.Mathlib.Omega.{arith}
 use borrow.Author.Needs.{needs}
 use Rattle.sums.specs.Needs.{byteMost}
 use Rattle.sums.proofs.SumLaws.{NextSum, sum-none, sum-to}
-use Rattle.sad.specs.Difference.{gapAt}
-use Rattle.sad.specs.Needs.{gapsFrom}
+use Rattle.sad.specs.Needs.{gapAt, gapsFrom}
 use Rattle.sad.proofs.SadLaws.{chunk-next}
 use Rattle.sad.proofs.chunk_sad.Statement.{statement}
 use Rattle.sad.proofs.chunk_sad.Tie as tie
