@@ -165,15 +165,20 @@ fn whole_plane(width: usize, height: usize) -> Plane {
     }
 }
 
-// "Two planes: the first plane's 1 and 2, then the second's"; and 3 before 4.
+// "Two planes: the first plane's 1 and 2, then the second's"
 fn put_planes() {
     let samples = [0u8; 128];
-    let mut work = [0u8; 128];
-    let mut costs = [0u32; 1];
     let long = whole_plane(16, 9);
     let none = whole_plane(0, 8);
     put(b"2 of the first plane, 1 of the second: ");
     put_whole(importance::importance_total(DEPTH, long, &samples, none, &samples));
+}
+
+// 3 before 4
+fn put_costs() {
+    let samples = [0u8; 128];
+    let mut work = [0u8; 128];
+    let mut costs = [0u32; 1];
     let wide = whole_plane(16, 8);
     let narrow = whole_plane(8, 8);
     put(b"3 of two planes, 4 of the cost list: ");
@@ -273,6 +278,7 @@ fn main() {
     put_sides();
     put_blocks();
     put_planes();
+    put_costs();
     put_steps();
     put_orders();
     put_pair_one();

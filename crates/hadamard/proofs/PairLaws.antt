@@ -6,24 +6,17 @@ use native.Mathlib.Decide.{decLt}
 use native.Mathlib.Omega.{arith}
 use lib.IntN.{ℤ, pos, _+ℤ_, _-ℤ_, natAbs}
 use lib.ListN.{length, getD, List·getD-eq-default}
-use Rattle.sums.specs.Table.{table}
-use Rattle.sums.proofs.TableLaws.{length-table, table-at}
+use Rattle.sums.proofs.TableLaws.{table-at}
 use Rattle.hadamard.specs.declared.Four.{Four}
 use Rattle.hadamard.specs.Transform.{output}
 use Rattle.hadamard.specs.Steps.{twoAt, pairSums, pairDifferences, pairedFour, fourOf, nth, FourWithin, lineEntry, stores, allLined, AllWithin, LinesIn}
+use Rattle.hadamard.proofs.Range.{table-within}
 use Rattle.hadamard.proofs.SignedLaws.{abs-add, abs-sub}
 use Rattle.hadamard.proofs.Halves.{output-4, output-ext, output-most}
 use Rattle.hadamard.proofs.FourLaws.{nth-four, four-within}
 use Rattle.hadamard.proofs.Places.{at-place, stores-ext, more-lined, lined-left}
 
 -- ---- how large the entries are
-table-within : (n q : ℕ) (g : ℕ → ℤ) → ((t : ℕ) → natAbs (g t) ≤ q) → AllWithin q (table n g)
-table-within n q g h = record { most = λ t. by-place t (decLt t n) }
-  where
-    by-place : (t : ℕ) → Dec (t < n) → natAbs (getD (table n g) t (pos 0)) ≤ q
-    by-place t (yes t<) = rw (table-at (pos 0) n g t t<) (h t)
-    by-place t (no past) = rw (List·getD-eq-default (table n g) (pos 0) {n = t} (omega (arith, length-table n g))) (omega arith)
-
 pub pairs-within : (q : ℕ) (l : List ℤ) → AllWithin q l → AllWithin (2 * q) (pairSums l) × AllWithin (2 * q) (pairDifferences l)
 pairs-within q l w = (
   table-within 32 (2 * q) (λ (i : ℕ). twoAt l (2 * i) .sum)

@@ -3,16 +3,19 @@ use mathlib.Core.Path.{_≡_, refl, ap}
 use mathlib.Core.Bool.{Bool, true, false, cond, not}
 use mathlib.Core.List.{List, [], _∷_}
 use Prim.Native.Nat.{ℕ, zero, suc, _+_, _-_, _*_, _≤_, _<_}
+use native.Mathlib.Decide.{decLt}
 use native.Mathlib.Numerals.{add-one}
 use native.Mathlib.Omega.{arith}
 use borrow.Author.Tests.{lt-ltb, le-ltb, ltb-true, ltb-false, ne-eqb, eq-eqb, eqb-true, not-false}
 use lib.Dec.{eqb}
 use lib.IntN.{ℤ, pos, negsuc, natAbs}
-use lib.ListN.{length, getD, drop, drop-of-length-le}
+use lib.ListN.{length, getD, drop, drop-of-length-le, List·getD-eq-default}
 use lib.Seq.{drop-cons}
 use lib.Signed.{ltZ}
 use Rattle.answer.specs.Refusal.{refusal}
 use Rattle.answer.proofs.Laws.{or-given, or-later, or-none, passed, lent-written}
+use Rattle.sums.specs.Table.{table}
+use Rattle.sums.proofs.TableLaws.{length-table, table-at}
 use Rattle.hadamard.specs.Transform.{entryMost, beyondMost, someBeyond, transformFault, transformed, afterTransform}
 use Rattle.hadamard.specs.Steps.{countBeyond, AllWithin}
 
@@ -82,6 +85,14 @@ within l e = record { most = each l e }
 
 pub within-more : (m n : ℕ) (l : List ℤ) → m ≤ n → AllWithin m l → AllWithin n l
 within-more m n l h w = record { most = λ i. omega (arith, w .most i) }
+
+-- a table's entries
+pub table-within : (n q : ℕ) (g : ℕ → ℤ) → ((t : ℕ) → natAbs (g t) ≤ q) → AllWithin q (table n g)
+table-within n q g h = record { most = λ t. by-place t (decLt t n) }
+  where
+    by-place : (t : ℕ) → Dec (t < n) → natAbs (getD (table n g) t (pos 0)) ≤ q
+    by-place t (yes t<) = rw (table-at (pos 0) n g t t<) (h t)
+    by-place t (no past) = rw (List·getD-eq-default (table n g) (pos 0) {n = t} (omega (arith, length-table n g))) (omega arith)
 
 -- and back
 pub none-beyond : (l : List ℤ) → AllWithin entryMost l → someBeyond l ≡ false

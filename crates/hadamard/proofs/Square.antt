@@ -1,12 +1,11 @@
 -- The square of 2 ^ p rows of 2 ^ p entries: transformed as one line it is `transformed`, in two dimensions. Assumes nothing.
 use mathlib.Core.Path.{_≡_, sym, ap, _∙_}
 use mathlib.Core.List.{List}
-use Prim.Native.Nat.{ℕ, _+_, _*_, _/_, _%_, _≤_, _<_, _^_}
+use Prim.Native.Nat.{ℕ, _+_, _*_, _/_, _%_, _<_, _^_}
 use native.Mathlib.Nat.{div-add-mod', mod-lt}
-use native.Mathlib.Decide.{decLt}
 use native.Mathlib.Omega.{arith}
-use lib.IntN.{ℤ, pos, natAbs}
-use lib.ListN.{length, getD, List·getD-eq-default}
+use lib.IntN.{ℤ, pos}
+use lib.ListN.{length, getD}
 use lib.Seq.{ext-getD}
 use Rattle.sums.specs.Table.{table}
 use Rattle.sums.proofs.TableLaws.{length-table, table-at}
@@ -14,6 +13,7 @@ use Rattle.hadamard.specs.Transform.{output, square, transformed}
 use Rattle.hadamard.specs.Steps.{lineEntry, lined, LineIn, AllWithin}
 use Rattle.hadamard.proofs.Halves.{output-ext, output-most}
 use Rattle.hadamard.proofs.Digits.{output-digits}
+use Rattle.hadamard.proofs.Range.{table-within}
 use Rattle.hadamard.proofs.Places.{at-place, length-stores, stores-at}
 
 module _ (p : ℕ) (some : 0 < 2 ^ p) (l : List ℤ) (size : length l ≡ 2 ^ p * 2 ^ p) where
@@ -48,15 +48,10 @@ pub length-transformed : (n : ℕ) (l : List ℤ) → length (transformed n l) �
 unfolding transformed
 length-transformed n l = length-table (n * n) (λ (t : ℕ). square n (λ (i j : ℕ). getD l (i * n + j) (pos 0)) (t / n) (t % n))
 
-module _ (m n : ℕ) (l : List ℤ) (w : AllWithin m l) where
-  entry-most : (t : ℕ) → Dec (t < n * n) → natAbs (getD (transformed n l) t (pos 0)) ≤ n * (n * m)
-  unfolding transformed
-  entry-most t (no past) = rw (List·getD-eq-default (transformed n l) (pos 0) {n = t} (omega (arith, length-transformed n l))) (omega arith)
-  entry-most t (yes in-it) =
-      let g : ℕ → ℤ = λ (t : ℕ). square n (λ (i j : ℕ). getD l (i * n + j) (pos 0)) (t / n) (t % n) in
-      rw (table-at (pos 0) (n * n) g t in-it)
-      (output-most (n * m) n (λ (j : ℕ). output n (λ (i : ℕ). getD l (i * n + j) (pos 0)) (t / n)) (t % n)
-      (λ j _. output-most m n (λ (i : ℕ). getD l (i * n + j) (pos 0)) (t / n) (λ i _. w .most (i * n + j))))
-
-  pub transformed-within : AllWithin (n * (n * m)) (transformed n l)
-  transformed-within = record { most = λ t. entry-most t (decLt t (n * n)) }
+pub transformed-within : (m n : ℕ) (l : List ℤ) → AllWithin m l → AllWithin (n * (n * m)) (transformed n l)
+unfolding transformed
+transformed-within m n l w =
+    table-within (n * n) (n * (n * m)) (λ (t : ℕ). square n (λ (i j : ℕ). getD l (i * n + j) (pos 0)) (t / n) (t % n))
+    (λ t.
+    output-most (n * m) n (λ (j : ℕ). output n (λ (i : ℕ). getD l (i * n + j) (pos 0)) (t / n)) (t % n)
+    (λ j _. output-most m n (λ (i : ℕ). getD l (i * n + j) (pos 0)) (t / n) (λ i _. w .most (i * n + j))))

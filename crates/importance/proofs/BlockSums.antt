@@ -11,7 +11,7 @@ use Rattle.plane.specs.declared.Plane.{Plane}
 use Rattle.plane.proofs.BlockLaws.{block-place, row-starts}
 use Rattle.plane.proofs.PlaneLaws.{Lies, Pair, pair, measured, total-fits}
 use Rattle.sums.specs.Sums.{sumBelow, apart}
-use Rattle.sums.proofs.SumLaws.{sum-ext, sum-most, sum-to, Turn, turn}
+use Rattle.sums.proofs.SumLaws.{sum-ext, sum-most, NextSum, next-sum}
 use Rattle.importance.specs.Importance.{blockSum, mean, blockDifference, blocksDifference, importanceTotal}
 use Rattle.importance.specs.Needs.{eightFrom, squareSum}
 
@@ -42,13 +42,13 @@ module _ (k : ℕ) (s : List ℕ) (l : (i : ℕ) → getD s i 0 ≤ k) where
   squares-most start stride = omega (arith, sum-most (blockSide * k) blockSide (eightFrom s start stride) (λ j _. eight-most start stride j))
 
   -- a turn of the sum of a row, in a room that holds eight samples, and one of the sum of a block
-  pub row-turn : (room : ℕ) → blockSide * k < room → (i sum : ℕ) → i < blockSide → sum ≡ sumBelow i (λ (n : ℕ). getD s n 0)
-      → Turn room i sum (getD s i 0) (λ (n : ℕ). getD s n 0)
-  row-turn room fits i sum h e = turn k blockSide room (λ (n : ℕ). getD s n 0) (λ j _. l j) fits i sum (getD s i 0) h e refl
+  pub row-next : (room : ℕ) → blockSide * k < room → (i sum : ℕ) → i < blockSide → sum ≡ sumBelow i (λ (n : ℕ). getD s n 0)
+      → NextSum room i sum (getD s i 0) (λ (n : ℕ). getD s n 0)
+  row-next room fits i sum h e = next-sum k blockSide room (λ (n : ℕ). getD s n 0) (λ j _. l j) fits i sum (getD s i 0) h e refl
 
-  pub block-turn : (room start stride : ℕ) → blockSide * (blockSide * k) < room → (j sum part : ℕ) → j < blockSide
-      → sum ≡ sumBelow j (eightFrom s start stride) → part ≡ eightFrom s start stride j → Turn room j sum part (eightFrom s start stride)
-  block-turn room start stride fits = turn (blockSide * k) blockSide room (eightFrom s start stride) (λ j _. eight-most start stride j) fits
+  pub block-next : (room start stride : ℕ) → blockSide * (blockSide * k) < room → (j sum part : ℕ) → j < blockSide
+      → sum ≡ sumBelow j (eightFrom s start stride) → part ≡ eightFrom s start stride j → NextSum room j sum part (eightFrom s start stride)
+  block-next room start stride fits = next-sum (blockSide * k) blockSide room (eightFrom s start stride) (λ j _. eight-most start stride j) fits
 
   block-most : (p : Plane) (y x : ℕ) → blockSum p s y x ≤ 64 * k
   block-most p y x = rw (sym (square-is p s y x)) (squares-most (blockStart p y x) (p .stride))
@@ -77,11 +77,11 @@ gaps-are p a q b y start start2 h hy e d =
 
 module _ (k : ℕ) (a b : List ℕ) (l : (i : ℕ) → getD a i 0 ≤ k) (m : (i : ℕ) → getD b i 0 ≤ k) (start step start2 step2 : ℕ) where
   -- a turn of the sum over a row of n blocks
-  pub gaps-turn : (n room : ℕ) → n * k < room → (x total part : ℕ) → x < n
+  pub gaps-next : (n room : ℕ) → n * k < room → (x total part : ℕ) → x < n
       → total ≡ sumBelow x (gapOf a start step b start2 step2) → part ≡ gapOf a start step b start2 step2 x
-      → Turn room x total part (gapOf a start step b start2 step2)
-  gaps-turn n room =
-      turn k n room (gapOf a start step b start2 step2) (λ x _. means-most k _ _ (squares-most k a l _ _) (squares-most k b m _ _))
+      → NextSum room x total part (gapOf a start step b start2 step2)
+  gaps-next n room =
+      next-sum k n room (gapOf a start step b start2 step2) (λ x _. means-most k _ _ (squares-most k a l _ _) (squares-most k b m _ _))
 
 module _ (k : ℕ) (p : Plane) (a : List ℕ) (q : Plane) (b : List ℕ) (l : (i : ℕ) → getD a i 0 ≤ k) (m : (i : ℕ) → getD b i 0 ≤ k) where
   -- n blocks of a row of blocks, and n such rows
@@ -91,10 +91,10 @@ module _ (k : ℕ) (p : Plane) (a : List ℕ) (q : Plane) (b : List ℕ) (l : (i
       (λ x _. means-most k (blockSum p a y x) (blockSum q b y x) (block-most k a l p y x) (block-most k b m q y x))
 
   -- a turn of the sum over all rows of blocks
-  pub rows-turn : k < 2 ^ 16 → Lies p (length a) → (y total part : ℕ) → y < blocksDown p
-      → total ≡ sumBelow y (blocksDifference p a q b) → part ≡ blocksDifference p a q b y → Turn (2 ^ 42) y total part (blocksDifference p a q b)
-  rows-turn s f =
-      turn (blocksAcross p * k) (blocksDown p) (2 ^ 42) (blocksDifference p a q b) (λ y _. differences-most y (blocksAcross p))
+  pub rows-next : k < 2 ^ 16 → Lies p (length a) → (y total part : ℕ) → y < blocksDown p
+      → total ≡ sumBelow y (blocksDifference p a q b) → part ≡ blocksDifference p a q b y → NextSum (2 ^ 42) y total part (blocksDifference p a q b)
+  rows-next s f =
+      next-sum (blocksAcross p * k) (blocksDown p) (2 ^ 42) (blocksDifference p a q b) (λ y _. differences-most y (blocksAcross p))
       (total-fits (blocksDown p) (blocksAcross p) k (omega arith) (omega arith) s)
 
   totals-most : (n : ℕ) → sumBelow n (blocksDifference p a q b) ≤ n * (blocksAcross p * k)

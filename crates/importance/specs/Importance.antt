@@ -1,5 +1,5 @@
 -- Document 01, "Importance": how far the rounded means of two planes' whole blocks lie apart.
-use Prim.Native.Nat.{ℕ, _+_, _*_, _/_}
+use Prim.Native.Nat.{ℕ, _+_, _/_}
 use mathlib.Core.List.{List}
 use lib.Ieee.{Float}
 use Rattle.answer.specs.Answer.{Answer}

@@ -11,8 +11,8 @@ use Rattle.sums.specs.Quotient.{quotientOf}
 use Rattle.sums.specs.Sums.{sumBelow}
 
 -- 1.0, and the float nearest to 7/10. "Multiplying by 0.3: 1.0 − 0.7 is another double."
-abbrev pub one : Float
-one = round binary64 false 1 1
+abbrev pub oneF : Float
+oneF = round binary64 false 1 1
 
 abbrev pub bias : Float
 bias = round binary64 false 7 10
@@ -28,4 +28,4 @@ thresholdFault n count = refusal 1 (leb count n && ltb (2 ^ 32) count) orElse re
 
 abbrev pub thresholdOf : List ℕ → ℕ → Answer Float
 thresholdOf costs count =
-    answered (thresholdFault (length costs) count) (mul binary64 (quotientOf (costSum costs count) count) (sub binary64 one bias))
+    answered (thresholdFault (length costs) count) (mul binary64 (quotientOf (costSum costs count) count) (sub binary64 oneF bias))

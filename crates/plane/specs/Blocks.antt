@@ -30,6 +30,6 @@ blocksStart p y = p .origin + y * blockSide * p .stride
 abbrev pub blockStart : Plane → ℕ → ℕ → ℕ
 blockStart p y x = blocksStart p y + x * blockSide
 
--- where row y of blocks starts over n samples; n where there is no such row, or where it does not start within them
+-- where row y of blocks starts over n samples: n where there is no such row, or where its first row of samples does not lie within them
 unfoldable pub blockRow : Plane → ℕ → ℕ → ℕ
 blockRow p n y = cond (ltb y (blocksDown p) && leb (rowEnd p (y * blockSide)) n) (blocksStart p y) n

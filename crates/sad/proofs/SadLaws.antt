@@ -9,9 +9,9 @@ use Rattle.plane.specs.declared.Plane.{Plane}
 use Rattle.plane.specs.Planes.{maxSide, sampleAt, rowOf, pairFault}
 use Rattle.plane.proofs.PlaneLaws.{Lies, Pair, length-row, row-at, pair, measured, total-fits}
 use Rattle.sums.specs.Sums.{sumBelow, apart}
-use Rattle.sums.proofs.SumLaws.{Turn, turn, sum-ext, sum-most, sum-cut, sum-to}
-use Rattle.sad.specs.Difference.{gapAt, rowSad, planeSad}
-use Rattle.sad.specs.Needs.{gapsFrom}
+use Rattle.sums.proofs.SumLaws.{NextSum, next-sum, sum-ext, sum-most, sum-cut, sum-to}
+use Rattle.sad.specs.Difference.{rowSad, planeSad}
+use Rattle.sad.specs.Needs.{gapAt, gapsFrom}
 
 -- a part of two rows cut in two, and chunk after chunk
 module _ (a b : List ℕ) (at : ℕ) where
@@ -36,15 +36,15 @@ module _ (k : ℕ) (a b : List ℕ) (l : (i : ℕ) → getD a i 0 ≤ k) (m : (i
   gap-most x = omega (arith, l x, m x)
 
   -- a turn of the sum over a chunk of n samples, in a room that holds them
-  pub chunk-turn : (at n room : ℕ) → n * k < room → (i sum part : ℕ) → i < n → sum ≡ gapsFrom a b at i → part ≡ gapAt a b (at + i)
-      → Turn room i sum part (λ (i : ℕ). gapAt a b (at + i))
-  chunk-turn at n room = turn k n room (λ (i : ℕ). gapAt a b (at + i)) (λ i _. gap-most (at + i))
+  pub chunk-next : (at n room : ℕ) → n * k < room → (i sum part : ℕ) → i < n → sum ≡ gapsFrom a b at i → part ≡ gapAt a b (at + i)
+      → NextSum room i sum part (λ (i : ℕ). gapAt a b (at + i))
+  chunk-next at n room = next-sum k n room (λ (i : ℕ). gapAt a b (at + i)) (λ i _. gap-most (at + i))
 
   -- one of the sum over chunks that a row has room for
-  pub chunks-turn : (from n room : ℕ) → maxSide * k < room → (c sum part : ℕ) → (c + 1) * n ≤ maxSide
+  pub chunks-next : (from n room : ℕ) → maxSide * k < room → (c sum part : ℕ) → (c + 1) * n ≤ maxSide
       → sum ≡ gapsFrom a b from (c * n) → part ≡ gapsFrom a b (from + c * n) n
       → (sum + part ≡ gapsFrom a b from ((c + 1) * n)) × (sum + part < room)
-  chunks-turn from n room fits c sum part reach e d =
+  chunks-next from n room fits c sum part reach e d =
       let more = chunk-more a b from c n in
       let most = sum-most k ((c + 1) * n) (λ (i : ℕ). gapAt a b (from + i)) (λ i _. gap-most (from + i)) in
       let all = mul-le-mul-right k reach in
@@ -60,10 +60,10 @@ module _ (k : ℕ) (a b : List ℕ) (l : (i : ℕ) → getD a i 0 ≤ k) (m : (i
       sum-most k (p .width) (λ (x : ℕ). apart (sampleAt p a y x) (sampleAt q b y x))
       (λ x _. omega (arith, l (p .origin + y * p .stride + x), m (q .origin + y * q .stride + x)))
 
-  pub rows-turn : (p q : Plane) → k < 2 ^ 16 → Lies p (length a) → (y total part : ℕ) → y < p .height
-      → total ≡ sumBelow y (rowSad p a q b) → part ≡ rowSad p a q b y → Turn (2 ^ 42) y total part (rowSad p a q b)
-  rows-turn p q s f =
-      turn (p .width * k) (p .height) (2 ^ 42) (rowSad p a q b) (λ y _. row-most p q y)
+  pub rows-next : (p q : Plane) → k < 2 ^ 16 → Lies p (length a) → (y total part : ℕ) → y < p .height
+      → total ≡ sumBelow y (rowSad p a q b) → part ≡ rowSad p a q b y → NextSum (2 ^ 42) y total part (rowSad p a q b)
+  rows-next p q s f =
+      next-sum (p .width * k) (p .height) (2 ^ 42) (rowSad p a q b) (λ y _. row-most p q y)
       (total-fits (p .height) (p .width) k (f .height-most) (f .width-most) s)
 
   -- two planes that are not refused

@@ -2,16 +2,11 @@
 use Prim.Native.Nat.{ℕ, _*_}
 use mathlib.Core.List.{List}
 use lib.Ieee.{Float}
-use lib.ListN.{getD}
 use Rattle.answer.specs.Answer.{Answer}
 use Rattle.plane.specs.Planes.{sampleAt, pairAnswer}
 use Rattle.plane.specs.declared.Plane.{Plane}
 use Rattle.sums.specs.Quotient.{quotientOf}
 use Rattle.sums.specs.Sums.{sumBelow, apart}
-
--- how far the numbers at place x of two rows lie apart
-abbrev pub gapAt : List ℕ → List ℕ → ℕ → ℕ
-gapAt a b x = apart (getD a x 0) (getD b x 0)
 
 -- row y's part of the sum
 abbrev pub rowSad : Plane → List ℕ → Plane → List ℕ → ℕ → ℕ

@@ -1,16 +1,19 @@
--- What only private contracts cite: the sum over a part of two rows, and rows that reach far enough for it.
+-- What only private contracts cite: sums over a part of two rows, and rows that reach far enough for them.
 use mathlib.Core.Path.{_≡_}
 use mathlib.Core.List.{List}
 use Prim.Native.Nat.{ℕ, _+_, _≤_}
-use lib.ListN.{length}
-use Rattle.sums.specs.Sums.{sumBelow}
-use Rattle.sad.specs.Difference.{gapAt}
+use lib.ListN.{length, getD}
+use Rattle.sums.specs.Sums.{sumBelow, apart}
 
--- n places from a place on
+-- how far the numbers at place x of two rows lie apart
+abbrev pub gapAt : List ℕ → List ℕ → ℕ → ℕ
+gapAt a b x = apart (getD a x 0) (getD b x 0)
+
+-- the sum over n places from a place on
 abbrev pub gapsFrom : List ℕ → List ℕ → ℕ → ℕ → ℕ
 gapsFrom a b at n = sumBelow n (λ (i : ℕ). gapAt a b (at + i))
 
 -- two rows of one length that reach as far as n
-pub record Reach (a b : List ℕ) (n : ℕ) : Type 0 where
+pub record LongRows (a b : List ℕ) (n : ℕ) : Type 0 where
   pub lengths : length a ≡ length b
   pub far : n ≤ length a

@@ -9,8 +9,8 @@ ghost use Rattle.answer.specs.Answer.{wholeAnswer, realAnswer};
 ghost use Rattle.plane.specs.Planes.{maxSide, sizesFault};
 ghost use Rattle.sums.specs.Needs.{byteMost};
 ghost use Rattle.sums.specs.Sums.{sumBelow};
-ghost use Rattle.sad.specs.Difference.{gapAt, planeSad, differenceOf, deltaOf};
-ghost use Rattle.sad.specs.Needs.{gapsFrom, Reach};
+ghost use Rattle.sad.specs.Difference.{planeSad, differenceOf, deltaOf};
+ghost use Rattle.sad.specs.Needs.{gapAt, gapsFrom, LongRows};
 
 // A row is taken in chunks of CHUNK samples, what is left of it in chunks of SMALL_CHUNK, and the last few one by one.
 const CHUNK: usize = 32;
@@ -20,7 +20,7 @@ const SMALL_CHUNK: usize = 8;
 // The sum over n samples from a place on. With an n that is constant where this is inlined, the compiler takes 16 samples
 // in one vector instruction; a sum of 16 bits spares it the widening of every distance.
 fn chunk_sad(a: &[u8], b: &[u8], at: usize, n: usize) -> u16
-    requires { ⌜ Reach (now a) (now b) (at + n) ⌝ }
+    requires { ⌜ LongRows (now a) (now b) (at + n) ⌝ }
     requires { ⌜ n * byteMost < 2 ^ 16 ⌝ }
     ensures { λ r. ⌜ r ≡ gapsFrom (now (a .entry)) (now (b .entry)) at n ⌝ }
 {
@@ -33,7 +33,7 @@ fn chunk_sad(a: &[u8], b: &[u8], at: usize, n: usize) -> u16
 
 // The sum over a number of chunks of n samples each, from a place on.
 fn chunks_sad(a: &[u8], b: &[u8], from: usize, chunks: usize, n: usize) -> u32
-    requires { ⌜ Reach (now a) (now b) (from + chunks * n) ⌝ }
+    requires { ⌜ LongRows (now a) (now b) (from + chunks * n) ⌝ }
     requires { ⌜ n * byteMost < 2 ^ 16 ⌝ }
     requires { ⌜ length (now a) ≤ maxSide ⌝ }
     ensures { λ r. ⌜ r ≡ gapsFrom (now (a .entry)) (now (b .entry)) from (chunks * n) ⌝ }

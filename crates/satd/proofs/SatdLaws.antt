@@ -3,21 +3,20 @@
 use mathlib.Core.Path.{_≡_, refl, ap, _∙_}
 use mathlib.Core.List.{List}
 use Prim.Native.Nat.{ℕ, _+_, _*_, _/_, _≤_, _<_}
-use native.Mathlib.Decide.{decLt}
 use native.Mathlib.Omega.{arith}
 use borrow.Author.Tests.{eq-eqb, ne-eqb}
 use lib.IntN.{ℤ, pos, natAbs}
-use lib.ListN.{length, getD, set, length-set, List·getD-eq-default}
+use lib.ListN.{length, getD, set, length-set}
 use Rattle.answer.specs.Answer.{gives, refused}
 use Rattle.answer.proofs.Laws.{or-given, or-later, answer-given, answer-refused}
-use Rattle.sums.proofs.TableLaws.{length-table, table-at, is-table, one-filled}
+use Rattle.sums.proofs.TableLaws.{length-table, is-table, one-filled}
 use Rattle.sums.proofs.SumLaws.{sum-most}
 use Rattle.sums.proofs.SignedLaws.{abs-difference}
 use Rattle.plane.specs.Blocks.{blockSide}
 use Rattle.hadamard.specs.Transform.{entryMost, transformed, afterTransform}
 use Rattle.hadamard.specs.Steps.{AllWithin}
 use Rattle.hadamard.proofs.Square.{length-transformed, transformed-within}
-use Rattle.hadamard.proofs.Range.{none-beyond, within-more, accepted}
+use Rattle.hadamard.proofs.Range.{table-within, none-beyond, within-more, accepted}
 use Rattle.satd.specs.Satd.{blockSize, difference, differences, absSum, satdValue, satdOf}
 
 -- a block of another length is refused, and two whole blocks have a SATD
@@ -65,14 +64,9 @@ unfolding satdValue
 left-satd {first} {second} p n e a b = ap (λ (m : ℕ). gives ((m + 4) / 8)) (e ∙ ap absSum (p .is)) ∙ satd-given first second a b
 
 module _ (k : ℕ) (first second : List ℕ) (p : (i : ℕ) → getD first i 0 ≤ k) (q : (i : ℕ) → getD second i 0 ≤ k) where
-  entry-most : (i : ℕ) → Dec (i < blockSize) → natAbs (getD (differences first second) i (pos 0)) ≤ k
-  entry-most i (no past) =
-      rw (List·getD-eq-default (differences first second) (pos 0) {n = i} (omega (arith, length-table blockSize (difference first second)))) (omega arith)
-  entry-most i (yes in-it) =
-      rw (table-at (pos 0) blockSize (difference first second) i in-it) (omega (arith, abs-difference (getD first i 0) (getD second i 0), p i, q i))
-
   differences-within : AllWithin k (differences first second)
-  differences-within = record { most = λ i. entry-most i (decLt i blockSize) }
+  differences-within =
+      table-within blockSize k (difference first second) (λ i. omega (arith, abs-difference (getD first i 0) (getD second i 0), p i, q i))
 
   transformed-most : AllWithin (blockSide * (blockSide * k)) (transformed blockSide (differences first second))
   transformed-most = transformed-within k blockSide (differences first second) differences-within

@@ -39,12 +39,12 @@ sum-to r m n f p e = rw (← e) p
 
 -- A turn of a loop that sums n numbers of at most b: the sum so far and one number more is the next sum, and it fits a room that all n fit.
 -- This is all that such a loop's proof has to say, whatever the samples' width.
-abbrev pub Turn : ℕ → ℕ → ℕ → ℕ → (ℕ → ℕ) → Type 0
-Turn room i sum part f = (sum + part ≡ sumBelow (i + 1) f) × (sum + part < room)
+abbrev pub NextSum : ℕ → ℕ → ℕ → ℕ → (ℕ → ℕ) → Type 0
+NextSum room i sum part f = (sum + part ≡ sumBelow (i + 1) f) × (sum + part < room)
 
-pub turn : (b n room : ℕ) (f : ℕ → ℕ) → ((j : ℕ) → j < n → f j ≤ b) → n * b < room
-    → (i sum part : ℕ) → i < n → sum ≡ sumBelow i f → part ≡ f i → Turn room i sum part f
-turn b n room f most fits i sum part h e d =
+pub next-sum : (b n room : ℕ) (f : ℕ → ℕ) → ((j : ℕ) → j < n → f j ≤ b) → n * b < room
+    → (i sum part : ℕ) → i < n → sum ≡ sumBelow i f → part ≡ f i → NextSum room i sum part f
+next-sum b n room f most fits i sum part h e d =
     let next = sum-more i f in
     let so-far = sum-most b (i + 1) f (λ j l. most j (omega arith)) in
     let all : (i + 1) * b ≤ n * b = mul-le-mul-right b (omega arith) in

@@ -7,9 +7,9 @@ use Rattle.plane.specs.Blocks.{blocksDown}
 use Rattle.plane.proofs.PlaneLaws.{pair}
 use Rattle.sums.specs.Needs.{byteMost}
 use Rattle.sums.specs.Sums.{sumBelow}
-use Rattle.sums.proofs.SumLaws.{Turn, sum-none, sum-to}
+use Rattle.sums.proofs.SumLaws.{NextSum, sum-none, sum-to}
 use Rattle.importance.specs.Importance.{blocksDifference, importanceTotal}
-use Rattle.importance.proofs.BlockSums.{rows-turn}
+use Rattle.importance.proofs.BlockSums.{rows-next}
 use Rattle.importance.proofs.all_differences.Statement.{statement}
 use Rattle.importance.proofs.all_differences.Tie as tie
 
@@ -28,12 +28,12 @@ blocks-difference-requires c κs = (c .before .before .before .before .before .p
 next : (c : tie.After-blocks-difference Inv-loop μ-loop)
     → let l = c .before .before in
     let s = l .before .before .before .before .args in
-    Turn (2 ^ 42) (l .loop .y) (l .loop .total) (c .blocks-difference .result) (blocksDifference (s .p) (s .a .now) (s .q) (s .b .now))
+    NextSum (2 ^ 42) (l .loop .y) (l .loop .total) (c .blocks-difference .result) (blocksDifference (s .p) (s .a .now) (s .q) (s .b .now))
 next c =
     let l = c .before .before in
     let k = l .before .before in
     let s = k .before .before .args in
-    rows-turn byteMost (s .p) (s .a .now) (s .q) (s .b .now)
+    rows-next byteMost (s .p) (s .a .now) (s .q) (s .b .now)
     (λ i. omega (arith, k .before .shared-slice-known .given i))
     (λ i. omega (arith, k .shared-slice-known2 .given i))
     (omega arith) (pair _ _ _ _ (k .before .before .pre) .first) (l .loop .y) (l .loop .total) (c .blocks-difference .result) (omega arith) (l .loop .inv .2) (c .blocks-difference .ensures)

@@ -9,8 +9,8 @@ use Rattle.plane.proofs.BlockLaws.{block-from}
 use Rattle.plane.proofs.PlaneLaws.{Pair, pair}
 use Rattle.sums.specs.Needs.{byteMost}
 use Rattle.sums.specs.Sums.{sumBelow}
-use Rattle.sums.proofs.SumLaws.{Turn, sum-none, sum-to}
-use Rattle.importance.proofs.BlockSums.{gapOf, gaps-are, gaps-turn, squares-most}
+use Rattle.sums.proofs.SumLaws.{NextSum, sum-none, sum-to}
+use Rattle.importance.proofs.BlockSums.{gapOf, gaps-are, gaps-next, squares-most}
 use Rattle.importance.proofs.blocks_difference.Statement.{statement}
 use Rattle.importance.proofs.blocks_difference.Tie as tie
 
@@ -94,7 +94,7 @@ next : (c : tie.After-means-apart Inv-loop μ-loop)
     → let i = c .before .before .before in
     let l = i .before in
     let s = entry i .args in
-    Turn (2 ^ 64) (l .loop .x) (l .loop .total) (c .means-apart .result)
+    NextSum (2 ^ 64) (l .loop .x) (l .loop .total) (c .means-apart .result)
     (gapOf (s .a .now) (starts i .before .block-row .result) (s .p .stride) (s .b .now) (starts i .block-row2 .result) (s .q .stride))
 next c =
     let i = c .before .before .before in
@@ -102,7 +102,7 @@ next c =
     let s = entry i in
     let h = bytes i in
     let p = planes s .first in
-    gaps-turn byteMost (s .args .a .now) (s .args .b .now) (h .0) (h .1) _ _ _ _ (blocksAcross (s .args .p)) (2 ^ 64) (omega arith)
+    gaps-next byteMost (s .args .a .now) (s .args .b .now) (h .0) (h .1) _ _ _ _ (blocksAcross (s .args .p)) (2 ^ 64) (omega arith)
     (l .loop .x) (l .loop .total) (c .means-apart .result) (omega arith) (l .loop .inv .1)
     (rw (c .before .before .sum-8x8-block .ensures, c .before .sum-8x8-block2 .ensures) at (c .means-apart .ensures))
 

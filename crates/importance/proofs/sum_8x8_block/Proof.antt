@@ -7,9 +7,9 @@ use lib.ListN.{length, length-take, length-drop}
 use Rattle.plane.specs.Blocks.{blockSide}
 use Rattle.sums.specs.Needs.{byteMost}
 use Rattle.sums.specs.Sums.{sumBelow}
-use Rattle.sums.proofs.SumLaws.{Turn, sum-none, sum-to}
+use Rattle.sums.proofs.SumLaws.{NextSum, sum-none, sum-to}
 use Rattle.importance.specs.Needs.{eightFrom}
-use Rattle.importance.proofs.BlockSums.{part-sum, block-turn}
+use Rattle.importance.proofs.BlockSums.{part-sum, block-next}
 use Rattle.importance.proofs.sum_8x8_block.Statement.{statement}
 use Rattle.importance.proofs.sum_8x8_block.Tie as tie
 
@@ -49,11 +49,11 @@ sum-row-requires c κs = simp (length-take, length-drop) (omega (arith, inside (
 next : (c : tie.After-sum-row Inv-loop μ-loop)
     → let l = c .before .before .before in
     let s = l .before .before .args in
-    Turn (2 ^ 16) (l .loop .j) (l .loop .sum) (c .sum-row .result) (eightFrom (s .s .now) (s .start) (s .stride))
+    NextSum (2 ^ 16) (l .loop .j) (l .loop .sum) (c .sum-row .result) (eightFrom (s .s .now) (s .start) (s .stride))
 next c =
     let l = c .before .before .before in
     let s = l .before .before .args in
-    block-turn byteMost (s .s .now) (λ i. omega (arith, l .before .shared-slice-known .given i)) (2 ^ 16) (s .start) (s .stride) (omega arith)
+    block-next byteMost (s .s .now) (λ i. omega (arith, l .before .shared-slice-known .given i)) (2 ^ 16) (s .start) (s .stride) (omega arith)
     (l .loop .j) (l .loop .sum) (c .sum-row .result) (omega arith) (l .loop .inv .1)
     (c .sum-row .ensures ∙ part-sum (s .s .now) (s .start + l .loop .j * s .stride) blockSide (inside (c .before .before)))
 

@@ -7,8 +7,8 @@ use lib.ListN.{getD}
 use Rattle.plane.specs.Blocks.{blockSide}
 use Rattle.sums.specs.Needs.{byteMost}
 use Rattle.sums.specs.Sums.{sumBelow}
-use Rattle.sums.proofs.SumLaws.{Turn, sum-none, sum-to}
-use Rattle.importance.proofs.BlockSums.{row-turn}
+use Rattle.sums.proofs.SumLaws.{NextSum, sum-none, sum-to}
+use Rattle.importance.proofs.BlockSums.{row-next}
 use Rattle.importance.proofs.sum_row.Statement.{statement}
 use Rattle.importance.proofs.sum_row.Tie as tie
 
@@ -30,10 +30,10 @@ cast-sum c = omega (arith, c .shared-slice-known .given (c .before .before .loop
 next : (c : tie.After-shared-slice-known Inv-loop μ-loop)
     → let l = c .before .before in
     let s = l .before .args .s .now in
-    Turn (2 ^ 16) (l .loop .i) (l .loop .sum) (getD s (l .loop .i) 0) (λ (n : ℕ). getD s n 0)
+    NextSum (2 ^ 16) (l .loop .i) (l .loop .sum) (getD s (l .loop .i) 0) (λ (n : ℕ). getD s n 0)
 next c =
     let l = c .before .before in
-    row-turn byteMost (l .before .args .s .now) (λ i. omega (arith, c .shared-slice-known .given i)) (2 ^ 16) (omega arith) (l .loop .i) (l .loop .sum) (omega arith) (l .loop .inv .1)
+    row-next byteMost (l .before .args .s .now) (λ i. omega (arith, c .shared-slice-known .given i)) (2 ^ 16) (omega arith) (l .loop .i) (l .loop .sum) (omega arith) (l .loop .inv .1)
 
 add-sum : tie.Need-add-sum Inv-loop μ-loop
 add-sum c = record { fits = next c .1 }

@@ -4,10 +4,9 @@ use Prim.Native.Nat.{ℕ, _+_, _^_, _≤_, _-_}
 use native.Mathlib.Omega.{arith}
 use borrow.Author.Needs.{needs}
 use Rattle.sums.specs.Needs.{byteMost}
-use Rattle.sums.proofs.SumLaws.{Turn, sum-none, sum-to}
-use Rattle.sad.specs.Difference.{gapAt}
-use Rattle.sad.specs.Needs.{gapsFrom}
-use Rattle.sad.proofs.SadLaws.{chunk-turn}
+use Rattle.sums.proofs.SumLaws.{NextSum, sum-none, sum-to}
+use Rattle.sad.specs.Needs.{gapAt, gapsFrom}
+use Rattle.sad.proofs.SadLaws.{chunk-next}
 use Rattle.sad.proofs.chunk_sad.Statement.{statement}
 use Rattle.sad.proofs.chunk_sad.Tie as tie
 
@@ -38,11 +37,11 @@ distance-requires c κs = search needs
 next : (c : tie.After-distance Inv-loop μ-loop)
     → let l = c .before .before .before .before in
     let s = l .before .before .before .args in
-    Turn (2 ^ 16) (l .loop .i) (l .loop .sum) (c .distance .result) (λ (i : ℕ). gapAt (s .a .now) (s .b .now) (s .at + i))
+    NextSum (2 ^ 16) (l .loop .i) (l .loop .sum) (c .distance .result) (λ (i : ℕ). gapAt (s .a .now) (s .b .now) (s .at + i))
 next c =
     let l = c .before .before .before .before in
     let s = l .before .before .before in
-    chunk-turn byteMost (s .args .a .now) (s .args .b .now)
+    chunk-next byteMost (s .args .a .now) (s .args .b .now)
     (λ i. omega (arith, l .before .before .shared-slice-known .given i))
     (λ i. omega (arith, l .before .shared-slice-known2 .given i))
     (s .args .at) (s .args .n) (2 ^ 16) (omega arith) (l .loop .i) (l .loop .sum) (c .distance .result) (omega arith) (l .loop .inv .1) (c .distance .ensures)

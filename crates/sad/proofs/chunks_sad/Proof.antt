@@ -9,7 +9,7 @@ use lib.ListN.{length}
 use Rattle.sums.specs.Needs.{byteMost}
 use Rattle.sums.proofs.SumLaws.{sum-none, sum-to}
 use Rattle.sad.specs.Needs.{gapsFrom}
-use Rattle.sad.proofs.SadLaws.{chunks-turn}
+use Rattle.sad.proofs.SadLaws.{chunks-next}
 use Rattle.sad.proofs.chunks_sad.Statement.{statement}
 use Rattle.sad.proofs.chunks_sad.Tie as tie
 
@@ -48,7 +48,7 @@ next : (c : tie.After-chunk-sad Inv-loop μ-loop)
 next c =
     let l = c .before .before in
     let s = l .before .before .before .args in
-    chunks-turn byteMost (s .a .now) (s .b .now)
+    chunks-next byteMost (s .a .now) (s .b .now)
     (λ i. omega (arith, l .before .before .shared-slice-known .given i))
     (λ i. omega (arith, l .before .shared-slice-known2 .given i))
     (s .from) (s .n) (2 ^ 32) (omega arith) (l .loop .c) (l .loop .sum) (c .chunk-sad .result) (omega (arith, inside (c .before)))

@@ -8,7 +8,7 @@ use lib.ListN.{length}
 use Rattle.sums.specs.Needs.{byteMost}
 use Rattle.sums.specs.Sums.{sumBelow}
 use Rattle.sums.proofs.SumLaws.{sum-to}
-use Rattle.sad.specs.Difference.{gapAt}
+use Rattle.sad.specs.Needs.{gapAt}
 use Rattle.sad.proofs.SadLaws.{row-fits, row-from, row-more}
 use Rattle.sad.proofs.row_sad.Statement.{statement}
 use Rattle.sad.proofs.row_sad.Tie as tie

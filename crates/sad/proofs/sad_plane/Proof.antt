@@ -7,9 +7,9 @@ use lib.ListN.{length}
 use Rattle.plane.proofs.PlaneLaws.{Pair, pair}
 use Rattle.sums.specs.Needs.{byteMost}
 use Rattle.sums.specs.Sums.{sumBelow}
-use Rattle.sums.proofs.SumLaws.{Turn, sum-none, sum-to}
+use Rattle.sums.proofs.SumLaws.{NextSum, sum-none, sum-to}
 use Rattle.sad.specs.Difference.{rowSad, planeSad}
-use Rattle.sad.proofs.SadLaws.{rows-turn, row-lengths, row-sad-is}
+use Rattle.sad.proofs.SadLaws.{rows-next, row-lengths, row-sad-is}
 use Rattle.sad.proofs.sad_plane.Statement.{statement}
 use Rattle.sad.proofs.sad_plane.Tie as tie
 
@@ -47,12 +47,12 @@ row-sad-requires c κs = let l = lengths c in let h = planes (c .before .before)
 next : (c : tie.After-row-sad Inv-loop μ-loop)
     → let l = c .before .before .before .before in
     let s = l .before .before .before .args in
-    Turn (2 ^ 42) (l .loop .y) (l .loop .total) (c .row-sad .result) (rowSad (s .p) (s .a .now) (s .q) (s .b .now))
+    NextSum (2 ^ 42) (l .loop .y) (l .loop .total) (c .row-sad .result) (rowSad (s .p) (s .a .now) (s .q) (s .b .now))
 next c =
     let l = c .before .before .before .before in
     let s = l .before .before .before .args in
     let h = planes (c .before .before .before) in
-    rows-turn byteMost (s .a .now) (s .b .now)
+    rows-next byteMost (s .a .now) (s .b .now)
     (λ i. omega (arith, l .before .before .shared-slice-known .given i))
     (λ i. omega (arith, l .before .shared-slice-known2 .given i))
     (s .p) (s .q) (omega arith) (h .first) (l .loop .y) (l .loop .total) (c .row-sad .result) (omega arith) (l .loop .inv .2)

@@ -7,7 +7,7 @@ use borrow.Author.Needs.{needs}
 use lib.IntN.{pos, natAbs}
 use lib.ListN.{getD}
 use Rattle.sums.specs.Sums.{sumBelow}
-use Rattle.sums.proofs.SumLaws.{sum-none, sum-to, Turn, turn}
+use Rattle.sums.proofs.SumLaws.{sum-none, sum-to, NextSum, next-sum}
 use Rattle.hadamard.specs.Transform.{entryMost}
 use Rattle.hadamard.proofs.SignedLaws.{read-at}
 use Rattle.plane.specs.Blocks.{blockSide}
@@ -46,10 +46,10 @@ told c =
 -- the next sum, and that it fits
 next : (c : tie.After-magnitude Inv-loop μ-loop)
     → let l = c .before .before .before in
-    Turn (2 ^ 32) (l .loop .i) (l .loop .sum) (c .magnitude .result) (λ (t : ℕ). natAbs (getD (l .before .args .block .now) t (pos 0)))
+    NextSum (2 ^ 32) (l .loop .i) (l .loop .sum) (c .magnitude .result) (λ (t : ℕ). natAbs (getD (l .before .args .block .now) t (pos 0)))
 next c =
     let l = c .before .before .before in
-    turn (blockSide * (blockSide * entryMost)) blockSize (2 ^ 32) _ (λ t _. l .before .pre .1 .most t) (omega arith) (l .loop .i) _ _ (omega arith) (l .loop .inv .1) (told c)
+    next-sum (blockSide * (blockSide * entryMost)) blockSize (2 ^ 32) _ (λ t _. l .before .pre .1 .most t) (omega arith) (l .loop .i) _ _ (omega arith) (l .loop .inv .1) (told c)
 
 add-sum : tie.Need-add-sum Inv-loop μ-loop
 add-sum c = omega (arith, next c .1)

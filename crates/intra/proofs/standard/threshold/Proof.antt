@@ -1,16 +1,16 @@
 -- `standard::threshold` meets its contract: a short list and one too long are refused, and else the mean is multiplied by 1.0 − 0.7 as the float literals give it. Assumes nothing.
-use mathlib.Core.Path.{_≡_, refl, ap, _∙_}
+use mathlib.Core.Path.{_≡_, refl, ap, ap₂, _∙_}
 use mathlib.Core.Bool.{_&&_}
 use Prim.Native.Nat.{ℕ, _≤_, _<_, _^_}
 use native.Mathlib.Omega.{arith}
 use borrow.Author.Needs.{needs}
 use borrow.Author.Tests.{lt-leb, le-leb, lt-ltb, le-ltb}
 use lib.Dec.{leb, ltb}
-use lib.Ieee.{Float, binary64, ofBits, round, mul, sub}
+use lib.Ieee.{binary64, ofBits, round, mul, sub}
 use Rattle.answer.specs.Refusal.{refusal}
 use Rattle.answer.proofs.Laws.{test-given, test-first, test-passed, test-later, answer-given, answer-refused}
 use Rattle.sums.specs.Quotient.{quotientOf}
-use Rattle.intra.specs.Threshold.{one, bias, thresholdFault}
+use Rattle.intra.specs.Threshold.{oneF, bias, thresholdFault}
 use Rattle.intra.proofs.standard.threshold.Statement.{statement}
 use Rattle.intra.proofs.standard.threshold.Tie as tie
 
@@ -42,7 +42,7 @@ quotient-requires : tie.Need-quotient-requires
 quotient-requires c κs = search needs
 
 -- the literals are the definition's numbers
-one-is : ofBits binary64 4607182418800017408 ≡ one
+one-is : ofBits binary64 4607182418800017408 ≡ oneF
 unfolding ofBits round
 one-is = refl
 
@@ -53,9 +53,9 @@ bias-is = refl
 returns-3 : tie.Need-returns-3
 returns-3 c =
     let s = c .before .before .before .before .before .args in
+    let mean = c .quotient .ensures ∙ ap (λ (n : ℕ). quotientOf n (s .count)) (c .before .cost-sum .ensures) in
     answer-given _ _ _ (none _ _ (c .before .before .before .if1 .left) (c .before .before .if2 .left))
-    (rw (one-is, bias-is)
-    (ap (λ (x : Float). mul binary64 x (sub binary64 one bias)) (c .quotient .ensures ∙ ap (λ (n : ℕ). quotientOf n (s .count)) (c .before .cost-sum .ensures))))
+    (ap₂ (mul binary64) mean (ap₂ (sub binary64) one-is bias-is))
 
 pub threshold-spec : {M : Type 1} → statement M
 threshold-spec =

@@ -1,11 +1,9 @@
 -- `Plane::block_row` meets its contract: past both tests the row starts within the samples, so no sum overflows. Assumes nothing.
-use mathlib.Core.Path.{_≡_, sym, _∙_}
-use mathlib.Core.Bool.{Bool}
+use mathlib.Core.Path.{sym, _∙_}
 use Prim.Native.Nat.{_≤_, _*_, _/_}
 use native.Mathlib.Omega.{arith}
 use borrow.Author.Needs.{needs}
 use borrow.Author.Tests.{lt-ltb, le-ltb, leb-true}
-use lib.Dec.{leb}
 use Rattle.plane.specs.Blocks.{blockRow}
 use Rattle.plane.specs.Planes.{rowEnd}
 use Rattle.plane.proofs.Plane.block_row.Statement.{statement}
