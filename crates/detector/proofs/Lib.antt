@@ -1,5 +1,6 @@
 pub mod Long
 pub mod Starts
+pub mod Cases
 pub mod Calls
 pub mod Views
 pub mod Costs

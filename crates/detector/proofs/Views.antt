@@ -39,6 +39,7 @@ abbrev pub renumbered : View → ℕ → ℕ → View
 renumbered s a b = record {
   settings = s .settings;
   entries = s .entries;
+  count = s .count;
   offset = s .offset;
   lastNumber = s .lastNumber;
   lastLength = s .lastLength;

@@ -20,6 +20,7 @@ use Rattle.state.specs.State.{View, Call}
 use Rattle.state.proofs.Tests.{and-both}
 use Rattle.detector.specs.Fresh.{freshView}
 use Rattle.detector.specs.Step.{Verdict, Outcome, stepOf}
+use Rattle.detector.proofs.Cases.{decided-accepted, leaves}
 use Rattle.detector.proofs.Reach.{scoreIn, score-stands}
 use Rattle.detector.proofs.Left.{settings-kept, entries-kept, entries-few}
 use Rattle.lent.specs.Places.{numbersLong, settingsLong, scoreLong, scoresLong, isState, settingsOf, scoresOf, entriesOf, stateOf, callNumbers, placed}
@@ -76,7 +77,8 @@ module _ (ns : List ℕ) (xs : List Float) (c : Call) (size : length ns ≡ numb
       let entries = entries-back v e in
       let settings : settingsOf (written ns after size) ≡ after .settings = same-settings ns after size ∙ sym (settings-kept before c) in
       let numbers : numbersAfter (stepOf before c) ns ≡ written ns after size = rw e in
-      rw (numbers, called ns after size 5, entries, called ns after size 0, called ns after size 1, called ns after size 2, called ns after size 3, called ns after size 4, settings)
+      let counted = leaves before c (decided-accepted before c v e) .counted in
+      rw (numbers, called ns after size 5, entries, called ns after size 0, called ns after size 1, called ns after size 2, called ns after size 3, called ns after size 4, settings, ← counted)
 
 -- ---- the theorems
 

@@ -63,6 +63,7 @@ abbrev pub stateOf : List ℕ → List Float → View
 stateOf ns xs = record {
   settings = settingsOf ns;
   entries = entriesOf (getD ns 12 0) xs;
+  count = getD ns 12 0;
   offset = getD ns 7 0;
   lastNumber = getD ns 8 0;
   lastLength = getD ns 9 0;

@@ -34,6 +34,7 @@ fn front_score(s: &[f64]) -> ScenecutResult
 fn lent_deque(scores: &[f64], count: usize) -> ScoreDeque
     requires { ⌜ length (now scores) ≡ scoresLong ⌝ }
     ensures { λ r. ⌜ content r ≡ entriesOf count (now (scores .entry)) ⌝ }
+    ensures { λ r. ⌜ r .count ≡ count ⌝ }
 {
     let none = ScenecutResult::new(0.0, 0.0, 0.0, 0.0, 0.0);
     let entries = [none; Settings::ROOM];

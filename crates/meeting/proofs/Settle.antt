@@ -92,6 +92,7 @@ module _ (f : Film) (g : Settings) (suits : Suits g) where
   left n l = record {
     settings = g;
     entries = l;
+    count = length l;
     offset = reach;
     lastNumber = n;
     lastLength = f .lengths n;

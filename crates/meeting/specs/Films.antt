@@ -44,6 +44,7 @@ abbrev pub compared : View → View
 compared s = record {
   settings = s .settings;
   entries = s .entries;
+  count = s .count;
   offset = s .offset;
   lastNumber = s .lastNumber;
   lastLength = s .lastLength;

@@ -4,7 +4,7 @@ use mathlib.Core.List.{List, [], _∷_, map}
 use mathlib.Core.Bool.{Bool, true, false, cond}
 use Prim.Native.Nat.{ℕ, zero, suc, _+_}
 use lib.Dec.{eqb}
-use lib.ListN.{take}
+use lib.ListN.{length, take}
 use lib.Ieee.{Float}
 use Rattle.settings.specs.declared.Settings.{Settings}
 use Rattle.settings.specs.Settings.{normalLookahead, isFast, fastThreshold}
@@ -69,6 +69,7 @@ abbrev pub closedState : Film → Settings → ℕ → ℕ → View
 closedState f g a j = record {
   settings = g;
   entries = closedEntries f g a j;
+  count = length (closedEntries f g a j);
   offset = reach;
   lastNumber = a + j;
   lastLength = f .lengths (a + j);

@@ -7,19 +7,19 @@ use mathlib.Core.Option.{some}
 use Prim.Native.Nat.{ℕ, _+_, _-_, _<_}
 use borrow.Author.Tests.{le-leb, lt-leb, eq-eqb, ne-eqb, eqb-true}
 use denote.Ref.{now}
-use lib.Dec.{leb}
 use lib.ListN.{length, getD}
 use Rattle.answer.specs.Answer.{gives}
 use Rattle.score.specs.declared.ScenecutResult.{ScenecutResult}
 use Rattle.settings.specs.Settings.{room, normalLookahead, lookaheadOffset, isNone, isFast}
 use Rattle.score.specs.Deque.{content, noScore, trimmedTo}
-use Rattle.score.proofs.Room.{long-min, entries-of}
+use Rattle.score.proofs.Room.{long-min, entries-of, exact-of}
 use Rattle.state.specs.State.{View, Call, view, call}
 use Rattle.state.proofs.Room.{state-room}
 use Rattle.state.proofs.Fine.{Shape, Fine, fine, long}
-use Rattle.detector.specs.Step.{Outcome, itemOf, progressOf, bareOf, scoredOf, acceptedOf}
-use Rattle.detector.specs.Rules.{Turn, rule3, rule5, rule6, rule7, nextOf}
+use Rattle.detector.specs.Step.{Outcome, itemOf, progressOf, bareOf, scoredOf}
+use Rattle.detector.specs.Rules.{Turn, rule5, rule6, rule7, nextOf}
 use Rattle.detector.specs.Needs.{Covers, turn}
+use Rattle.detector.proofs.Cases.{stays, silent, goes-on}
 use Rattle.detector.proofs.Starts.{lookahead-small, above, two}
 use native.Mathlib.Omega.{arith}
 use borrow.Author.Needs.{needs}
@@ -35,21 +35,6 @@ scored-is : (s : View) (c : Call) (t : Turn) (cut : Bool) (score : ScenecutResul
     → _≡_ {A = Outcome} (record { answer = gives (record { cut = cut; score = some score }); state = state }) (scoredOf s c t)
 scored-is s c t cut score kept state p q r e = rw (e, r, q, p)
 
--- rule 2, rule 3, and where neither applies
-stays : (s : View) (c : Call) → leb (c .setLength) (lookaheadOffset (s .settings)) ≡ true → acceptedOf s c ≡ bareOf s (c .setLength) (c .number) false
-unfolding acceptedOf
-stays s c k = rw k
-
-silent : (s : View) (c : Call) → leb (c .setLength) (lookaheadOffset (s .settings)) ≡ false → isNone (s .settings) ≡ true
-    → acceptedOf s c ≡ bareOf s (c .setLength) (c .number) (rule3 (s .settings) (c .number - c .keyframe))
-unfolding acceptedOf
-silent s c k m = rw (k, m)
-
-goes-on : (s : View) (c : Call) → leb (c .setLength) (lookaheadOffset (s .settings)) ≡ false → isNone (s .settings) ≡ false
-    → acceptedOf s c ≡ scoredOf s c (progressOf s c)
-unfolding acceptedOf
-goes-on s c k n = rw (k, n)
-
 abbrev begin : tie.After-lookahead-offset → tie.Start
 begin c = c .before .before .before .before .before .before
 
@@ -62,14 +47,15 @@ given c = call (c .args .length) (c .args .n) (c .args .p) (now (c .args .inter)
 at : (c : tie.Start) → Fine (view (c .args .s)) (given c)
 at c = fine (view (c .args .s)) (given c) (c .pre)
 
--- what is held is the count
-shaped : (c : tie.Start) → Shape (c .args .s .settings) (c .args .s .deque .count) (c .args .s .offset)
-shaped c =
+-- the count is that of the entries
+counted : (c : tie.Start) → c .args .s .deque .count ≡ length (content (c .args .s .deque))
+counted c =
     let d = c .args .s .deque in
     let r : length (d .entries) ≡ room = state-room (c .args .s) _ (c .good .0) in
-    let f = at c .shaped in
-    let n : length (content d) ≡ d .count = omega (arith, long-min d r, f .few) in
-    rw n at f
+    omega (arith, long-min d r, at c .shaped .few)
+
+shaped : (c : tie.Start) → Shape (c .args .s .settings) (c .args .s .deque .count) (c .args .s .offset)
+shaped c = rw (← counted c) at (at c .shaped)
 
 later : (c : tie.Else1) → lookaheadOffset (start c .args .s .settings) < start c .args .length
 later c = rw (c .before .lookahead-offset .ensures) at (c .if1 .left)
@@ -94,7 +80,7 @@ lookahead-offset-requires : tie.Need-lookahead-offset-requires
 lookahead-offset-requires c κs = search needs
 
 bare-requires : tie.Need-bare-requires
-bare-requires c κs = search needs
+bare-requires c κs = counted (begin (c .before))
 
 returns : tie.Need-returns
 returns c =
@@ -110,7 +96,7 @@ none-cut-requires : tie.Need-none-cut-requires
 none-cut-requires c κs = search needs
 
 bare-requires-2 : tie.Need-bare-requires-2
-bare-requires-2 c κs = search needs
+bare-requires-2 c κs = counted (start (c .before .before .before))
 
 returns-2 : tie.Need-returns-2
 returns-2 c =
@@ -163,7 +149,7 @@ trimmed-requires : tie.Need-trimmed-requires
 trimmed-requires c κs = search needs
 
 next-state-requires : tie.Need-next-state-requires
-next-state-requires c κs = search needs
+next-state-requires c κs = exact-of (c .trimmed .result) _ (c .trimmed .ensures)
 
 returns-3 : tie.Need-returns-3
 returns-3 c =
