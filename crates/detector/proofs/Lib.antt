@@ -3,6 +3,7 @@ pub mod Starts
 pub mod Calls
 pub mod Views
 pub mod Costs
+pub mod Cases
 pub mod Reach
 pub mod Left
 pub mod Unique
