@@ -1,9 +1,9 @@
 pub mod Long
 pub mod Starts
-pub mod Cases
 pub mod Calls
 pub mod Views
 pub mod Costs
+pub mod Cases
 pub mod Reach
 pub mod Left
 pub mod Unique

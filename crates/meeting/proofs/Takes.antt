@@ -106,7 +106,7 @@ module _ (f : Film) (g : Settings) (suits : Suits g) where
 
     settled : 0 < j → settingsFault g ≡ 0
     unfolding runFrom
-    settled h = fine (freshView g) (callAt f (a + 0)) (t .fine 0 (omega arith)) .shaped .settled
+    settled h = fine (freshView g) (callAt f (a + 0)) (t .fine 0 (omega arith)) .state .settled
 
     -- call a + d + i of the fresh run
     now : (i : ℕ) → i < j → Accepted f g (a + d) i → Clear (runFrom f g (a + d) i) (callAt f (a + d + i))

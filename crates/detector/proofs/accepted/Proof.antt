@@ -1,7 +1,7 @@
 -- `accepted` meets its contract: each rule's function gives its rule, and what they ask follows from no refusal being given.
 -- Assumes nothing.
 use mathlib.Core.Path.{_≡_, sym, _∙_, ap}
-use mathlib.Core.Bool.{Bool, true, false}
+use mathlib.Core.Bool.{Bool, true, false, not}
 use mathlib.Core.List.{List}
 use mathlib.Core.Option.{some}
 use Prim.Native.Nat.{ℕ, _+_, _-_, _<_}
@@ -14,8 +14,9 @@ use Rattle.settings.specs.Settings.{room, normalLookahead, lookaheadOffset, isN
 use Rattle.score.specs.Deque.{content, noScore, trimmedTo}
 use Rattle.score.proofs.Room.{long-min, entries-of, exact-of}
 use Rattle.state.specs.State.{View, Call, view, call}
+use Rattle.state.specs.Refusals.{readsAll}
 use Rattle.state.proofs.Room.{state-room}
-use Rattle.state.proofs.Fine.{Shape, Fine, fine, long}
+use Rattle.state.proofs.Fine.{Fine, fine}
 use Rattle.detector.specs.Step.{Outcome, itemOf, progressOf, bareOf, scoredOf}
 use Rattle.detector.specs.Rules.{Turn, rule5, rule6, rule7, nextOf}
 use Rattle.detector.specs.Needs.{Covers, turn}
@@ -47,15 +48,12 @@ given c = call (c .args .length) (c .args .n) (c .args .p) (now (c .args .inter)
 at : (c : tie.Start) → Fine (view (c .args .s)) (given c)
 at c = fine (view (c .args .s)) (given c) (c .pre)
 
--- the count is that of the entries
-counted : (c : tie.Start) → c .args .s .deque .count ≡ length (content (c .args .s .deque))
+-- what is held is the count
+counted : (c : tie.Start) → length (content (c .args .s .deque)) ≡ c .args .s .deque .count
 counted c =
     let d = c .args .s .deque in
     let r : length (d .entries) ≡ room = state-room (c .args .s) _ (c .good .0) in
-    omega (arith, long-min d r, at c .shaped .few)
-
-shaped : (c : tie.Start) → Shape (c .args .s .settings) (c .args .s .deque .count) (c .args .s .offset)
-shaped c = rw (← counted c) at (at c .shaped)
+    omega (arith, long-min d r, at c .state .few)
 
 later : (c : tie.Else1) → lookaheadOffset (start c .args .s .settings) < start c .args .length
 later c = rw (c .before .lookahead-offset .ensures) at (c .if1 .left)
@@ -68,19 +66,17 @@ covered c =
     let f = at s in
     let k = s .args .length - 1 in
     let some-mode : isNone (s .args .s .settings) ≡ false = ne-eqb _ _ (c .if2 .left) in
+    let all : isFast (s .args .s .settings) ≡ false → readsAll (s .args .s .settings) ≡ true = λ e. rw (some-mode, e) in
     record {
-      costs = omega (arith, long false k (now (s .args .inter)) (f .read some-mode));
-      rest = λ e. (
-        omega (arith, long true k (now (s .args .importance)) (f .reads some-mode e .0)),
-        omega (arith, long true k (now (s .args .threshold)) (f .reads some-mode e .1)),
-      );
+      costs = omega (arith, f .inter (ap not some-mode) .long);
+      rest = λ e. (omega (arith, f .importance (all e) .long), omega (arith, f .threshold (all e) .long));
     }
 
 lookahead-offset-requires : tie.Need-lookahead-offset-requires
 lookahead-offset-requires c κs = search needs
 
 bare-requires : tie.Need-bare-requires
-bare-requires c κs = counted (begin (c .before))
+bare-requires c κs = sym (counted (begin (c .before)))
 
 returns : tie.Need-returns
 returns c =
@@ -96,7 +92,7 @@ none-cut-requires : tie.Need-none-cut-requires
 none-cut-requires c κs = search needs
 
 bare-requires-2 : tie.Need-bare-requires-2
-bare-requires-2 c κs = counted (start (c .before .before .before))
+bare-requires-2 c κs = sym (counted (start (c .before .before .before)))
 
 returns-2 : tie.Need-returns-2
 returns-2 c =
@@ -112,17 +108,18 @@ initialized-requires : tie.Need-initialized-requires
 initialized-requires c κs =
     let s = start (c .before .before) in
     let f = at s in
-    let h = shaped s in
+    let h = f .state in
+    let n = counted s in
     let g = s .args .s .settings in
     let o = s .args .s .offset in
     let l = later (c .before .before) in
     let never : s .args .length ≡ 1 → lookaheadOffset g ≡ 0 → o ≡ 0 → ⊥ = λ i j k. c .if2 .left (eqb-true (g .mode) 0 (f .goes i j k)) in (
       record {
-        few = h .few;
+        few = omega (arith, h .few);
         short = f .short;
         small = f .small;
-        empty = λ z. (omega (arith, h .empty z), two o (s .args .length) (lookaheadOffset g) never l (h .empty z));
-        within = h .within;
+        empty = λ z. let e = h .empty (n ∙ z) in (omega arith, two o (s .args .length) (lookaheadOffset g) never l e);
+        within = λ z. omega (arith, h .within (omega arith));
         falls = above o (s .args .length) (lookaheadOffset g) never l;
       },
       covered c,
