@@ -6,4 +6,5 @@ pub mod Costs
 pub mod Cases
 pub mod Reach
 pub mod Left
+pub mod Account
 pub mod Unique
