@@ -1,3 +1,5 @@
+pub mod FilmLaws
+pub mod History
 pub mod Closed
 pub mod Settle
 pub mod Takes
