@@ -1,4 +1,5 @@
 pub mod FilmLaws
+pub mod Lists
 pub mod History
 pub mod Closed
 pub mod Settle

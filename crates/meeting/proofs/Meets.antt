@@ -4,7 +4,7 @@
 use mathlib.Core.Path.{_≡_, sym, subst, _∙_, ap}
 use mathlib.Core.Bool.{Bool, true, false}
 use mathlib.Core.List.{List, []}
-use Prim.Native.Nat.{ℕ, zero, suc, _+_, _-_, _≤_}
+use Prim.Native.Nat.{ℕ, zero, suc, _+_, _-_, _≤_, _<_}
 use native.Mathlib.Omega.{arith}
 use lib.ListN.{take}
 use Rattle.settings.specs.declared.Settings.{Settings}
@@ -19,10 +19,11 @@ use Rattle.detector.specs.Step.{Outcome, isRefused, stepAnswer, outcome, stepOf
 use Rattle.detector.specs.Runs.{stateAfter, compared, runOf}
 use Rattle.detector.proofs.Views.{alike}
 use Rattle.detector.proofs.Account.{after-blind, code-after}
-use Rattle.meeting.specs.Films.{Film, callAt, callsFrom, runFrom}
+use Rattle.meeting.specs.Films.{Film, callAt, callsFrom, listedCalls, runFrom}
 use Rattle.meeting.specs.Meeting.{Suits, Accepted, FullSets, callsToMeet, Meeting, SameAnswers, Acceptance, Demand3}
 use Rattle.meeting.proofs.History.{span, keeps, history, closedEntriesOf, closedDeque, closedState}
 use Rattle.meeting.proofs.FilmLaws.{accepted-at}
+use Rattle.meeting.proofs.Lists.{listed}
 use Rattle.meeting.proofs.Closed.{pairsNeeded, local, histories-meet}
 use Rattle.meeting.proofs.Settle.{run-closed}
 use Rattle.meeting.proofs.Takes.{takes}
@@ -88,13 +89,15 @@ code-answers s t c r q p u e =
       ap (λ (o : Outcome). compared (o .state)) p ∙ x .1 ∙ sym (ap (λ (o : Outcome). compared (o .state)) u),
     )
 
--- and the code's run over the calls of a film, from a fresh state, is a run: its contract says that `outcome r` is `runOf`
-pub code-run : (f : Film) (g : Settings) (a j : ℕ) (before r : Stepped) → outcome r ≡ runOf (outcome before) (callsFrom f a j)
+-- and the code's run over a film's lists, from a fresh state on, leaves the state of a run: its contract says that `outcome r` is `runOf`
+-- of the calls that it makes of them, and the lists have the k pairs that the calls read
+pub code-run : (f : Film) (g : Settings) (a j k : ℕ) (before r : Stepped) → outcome r ≡ runOf (outcome before) (listedCalls f a j k)
+    → ((i : ℕ) → i < j → i + (f .lengths (a + i) - 1) ≤ k)
     → view (before .state) ≡ freshView g → isRefused (stepAnswer (before .answer)) ≡ false → Accepted f g a j
     → view (r .state) ≡ runFrom f g a j
-code-run f g a j before r e fresh h t =
+code-run f g a j k before r e reaches fresh h t =
     let cs = callsFrom f a j in
-    code-after before r cs e h (rw fresh t) ∙ ap (λ (s : View). stateAfter s cs) fresh
+    code-after before r cs (e ∙ ap (runOf (outcome before)) (listed f a j k reaches)) h (rw fresh t) ∙ ap (λ (s : View). stateAfter s cs) fresh
 
 -- ---- 3. the fresh run's calls are accepted
 
