@@ -84,7 +84,6 @@ pub fn initialized(
     requires { ⌜ Startable length n o (d .count) ⌝ }
     requires { ⌜ Covers (isFast g) (length - 1) (now inter) (now importance) (now threshold) ⌝ }
     ensures { λ r. ⌜ turn r ≡ rule4 g length n (measureOf (isFast g) (now (inter .entry)) (now (importance .entry)) (now (threshold .entry))) o (content d) ⌝ }
-    ensures { λ r. ⌜ Ready length r ⌝ }
 {
     let count = d.count;
     if count != 0 {
@@ -135,7 +134,7 @@ pub fn advanced(
     threshold: &[f64],
     q: Progress,
 ) -> Progress
-    requires { ⌜ Ready length q × (n < numberLimit) ⌝ }
+    requires { ⌜ Ready length (turn q) × (n < numberLimit) ⌝ }
     requires { ⌜ Covers (isFast g) (length - 1) (now inter) (now importance) (now threshold) ⌝ }
     ensures { λ r. ⌜ turn r ≡ rule5 g length n (measureOf (isFast g) (now (inter .entry)) (now (importance .entry)) (now (threshold .entry))) (turn q) ⌝ }
 {
