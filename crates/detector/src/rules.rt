@@ -186,7 +186,7 @@ pub fn decided(g: Settings, distance: u64, d: ScoreDeque, o: usize) -> bool
     ensures { λ r. ⌜ r ≡ rule6 g distance (turnAt (content d) o) ⌝ }
 {
     let fast = g.mode == Settings::FAST;
-    let reach = g.importance_threshold();
-    let cut = decision::adaptive_scenecut(fast, reach, d, o);
+    let level = g.importance_threshold();
+    let cut = decision::adaptive_scenecut(fast, level, d, o);
     with_interval(g, distance, cut)
 }
