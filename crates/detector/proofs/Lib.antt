@@ -1,8 +1,8 @@
 pub mod Long
-pub mod Starts
 pub mod Calls
 pub mod Views
 pub mod Costs
+pub mod Begins
 pub mod Cases
 pub mod Reach
 pub mod Left

@@ -1,37 +1,34 @@
 -- Every state that calls reach from a fresh detector passes 11: a refused call leaves the state, and an accepted one leaves fewer
 -- entries than the room, an offset below their number and inter costs that were allowed.
 -- Assumes nothing.
-use mathlib.Core.Path.{_≡_, refl, ap, _∙_}
-use mathlib.Core.Bool.{Bool, true, false, not, _&&_, cond}
+use mathlib.Core.Path.{_≡_, refl, _∙_}
+use mathlib.Core.Bool.{Bool, true, false, _&&_, cond}
 use mathlib.Core.List.{List, [], _∷_}
 use mathlib.Core.Option.{Option, none, some}
 use Prim.Native.Nat.{ℕ, _+_, _-_, _≤_, _<_}
 use native.Mathlib.Omega.{arith}
-use borrow.Author.Tests.{lt-ltb, ltb-true, ltb-false, eq-eqb, ne-eqb, eqb-true, eqb-false}
-use lib.Dec.{eqb, ltb}
+use borrow.Author.Tests.{ltb-true, ltb-false}
+use lib.Dec.{ltb}
 use lib.ListN.{length, take, getD}
 use lib.Seq.{length-take-le, getD-take}
 use Rattle.answer.specs.Answer.{Answer, gives, refused}
 use Rattle.settings.specs.declared.Settings.{Settings}
 use Rattle.settings.specs.Settings.{room, normalLookahead, lookaheadOffset, isNone, isFast, isScaled, fastThreshold, settingsFault}
+use Rattle.settings.proofs.Laws.{lookahead-small}
 use Rattle.score.specs.declared.ScenecutResult.{ScenecutResult}
-use Rattle.score.specs.declared.Measure.{Measure}
 use Rattle.score.specs.Deque.{noScore}
-use Rattle.score.specs.Scores.{scoreOf}
-use Rattle.score.specs.Costs.{forbidden}
 use Rattle.state.specs.State.{View, Call}
 use Rattle.state.specs.Refusals.{stateFault, stepFault}
-use Rattle.state.proofs.Tests.{and-right, and-both, positive}
 use Rattle.state.proofs.Well.{Well, well, passes, state-same}
 use Rattle.state.proofs.Fine.{Fine, fine, settings-refused}
-use Rattle.detector.specs.Rules.{Turn, againOf, itemsOf, rule7, nextOf}
+use Rattle.detector.specs.Rules.{Turn, againOf, rule4, rule5, rule7, nextOf}
 use Rattle.detector.specs.Step.{Verdict, Outcome, itemOf, progressOf, bareOf, scoredOf, acceptedOf, stepOf}
 use Rattle.detector.specs.Fresh.{freshView}
 use Rattle.detector.specs.Runs.{next, thenStep, runOf}
 use Rattle.detector.proofs.Cases.{accepted-cases, step-cases}
-use Rattle.detector.proofs.Long.{score-long, items-long}
-use Rattle.detector.proofs.Starts.{lookahead-small, above, two}
-use Rattle.detector.proofs.Costs.{Sound, no-entry, score-sound, items-sound, again-sound, list-sound, take-sound}
+use Rattle.detector.proofs.Long.{score-long}
+use Rattle.detector.proofs.Begins.{Begun, item-sound, begun}
+use Rattle.detector.proofs.Costs.{Sound, no-entry, score-sound, again-sound, take-sound}
 
 -- what rules 4 and 5 leave
 record Good (g : Settings) (t : Turn) : Type 0 where
@@ -41,109 +38,38 @@ record Good (g : Settings) (t : Turn) : Type 0 where
   spare : normalLookahead + lookaheadOffset g < length (t .entries) → t .offset + 1 < length (t .entries)
   sound : Sound (t .entries)
 
-module _ (s : View) (c : Call) (f : Fine s c) (mode : isNone (s .settings) ≡ false) (later : lookaheadOffset (s .settings) < c .setLength) where
-  abbrev g : Settings
-  g = s .settings
-
-  abbrev o : ℕ
-  o = s .offset
-
-  abbrev k : ℕ
-  k = c .setLength
-
-  small : lookaheadOffset g ≤ normalLookahead
-  small = lookahead-small g
-
-  item-sound : (i : ℕ) → i < k - 1 → forbidden false (itemOf s c i .inter) ≡ false
-  item-sound i h =
-      let r = f .inter (ap not mode) in
-      list-sound (c .inter) i (omega (arith, r .long)) (r .allowed)
-
-  never : k ≡ 1 → lookaheadOffset g ≡ 0 → o ≡ 0 → ⊥
-  never i j l = clash (f .goes i j l)
+module _ (s : View) (c : Call) (f : Fine s c) (later : lookaheadOffset (s .settings) < c .setLength) (mode : isNone (s .settings) ≡ false) where
+  -- rule 5
+  went : (t : Turn) → Begun (s .settings) (c .setLength) t → Good (s .settings) (rule5 (s .settings) (c .setLength) (c .number) (itemOf s c) t)
+  went t b = by (ltb (t .offset + 1) (c .setLength)) refl
     where
-      clash : isNone g ≡ true → ⊥
-      clash e = let z : _≡_ {A = ℕ} 0 1 = cc in omega arith
+      by : (x : Bool) → ltb (t .offset + 1) (c .setLength) ≡ x → Good (s .settings) (rule5 (s .settings) (c .setLength) (c .number) (itemOf s c) t)
+      by true p =
+          let g = s .settings in
+          let o = t .offset in
+          let l : o + 1 < c .setLength = ltb-true _ _ p in
+          let m = againOf (t .again && isScaled g) (itemOf s c o) in
+          let n = score-long (isFast g) (fastThreshold g) o (c .number + o) m (t .entries) in
+          rw p (record {
+            few = omega (arith, n, b .ready .few);
+            fewer = λ e. omega (arith, n, b .fewer e);
+            inside = omega (arith, n, b .ready .at);
+            spare = λ e. omega (arith, n, b .spare (omega (arith, n)));
+            sound = score-sound (isFast g) (fastThreshold g) o (c .number + o) m (t .entries) (again-sound (t .again && isScaled g) (itemOf s c o) (item-sound s c f later mode o (omega arith))) (b .sound);
+          })
+      by false p =
+          let i = b .ready .falls (ltb-false _ _ p) in
+          let h = b .ready .at in
+          rw p (record {
+            few = omega (arith, b .ready .few);
+            fewer = λ e. omega (arith, b .fewer e);
+            inside = omega arith;
+            spare = λ e. omega (arith, b .spare (omega arith));
+            sound = b .sound;
+          })
 
-  -- the items are scored, and then one more
-  started : (q p : ℕ) (again : Bool) → q ≤ k - 1 → p < k - 1 → Sound (s .entries)
-      → Sound (scoreOf (isFast g) (fastThreshold g) p (c .number + p) (againOf (again && isScaled g) (itemOf s c p)) (itemsOf (isFast g) (fastThreshold g) o (c .number) (itemOf s c) q (s .entries)))
-  started q p again h l e =
-      score-sound (isFast g) (fastThreshold g) p (c .number + p) (againOf (again && isScaled g) (itemOf s c p)) (itemsOf (isFast g) (fastThreshold g) o (c .number) (itemOf s c) q (s .entries))
-      (again-sound (again && isScaled g) (itemOf s c p) (item-sound p l))
-      (items-sound (isFast g) (fastThreshold g) o (c .number) (itemOf s c) q (s .entries) (λ i u. item-sound i (omega arith)) e)
-
-  started-long : (q p : ℕ) (m : Measure) → length (scoreOf (isFast g) (fastThreshold g) p (c .number + p) m (itemsOf (isFast g) (fastThreshold g) o (c .number) (itemOf s c) q (s .entries))) ≡ q + length (s .entries) + 1
-  started-long q p m =
-      score-long (isFast g) (fastThreshold g) p (c .number + p) m (itemsOf (isFast g) (fastThreshold g) o (c .number) (itemOf s c) q (s .entries))
-      ∙ omega (arith, items-long (isFast g) (fastThreshold g) o (c .number) (itemOf s c) q (s .entries))
-
-  -- rule 4's first half
-  good-first : length (s .entries) ≡ 0 → ltb 0 o && ltb (o + 1) k ≡ true → Good g (progressOf s c)
-  good-first z t =
-      let w = and-both (ltb 0 o) (ltb (o + 1) k) t in
-      let l : o + 1 < k = ltb-true (o + 1) k (w .1) in
-      let a : o ≡ lookaheadOffset g = f .state .empty z in
-      let n = started-long o o (againOf (false && isScaled g) (itemOf s c o)) in
-      rw (eq-eqb (length (s .entries)) 0 z, t, w .1) (record {
-        few = omega (arith, n, small);
-        fewer = λ e. omega (arith, n, small);
-        inside = omega (arith, n);
-        spare = λ e. omega (arith, n);
-        sound = started o o false (omega arith) (omega arith) (f .state .sound);
-      })
-
-  -- rule 4's second half
-  good-second : length (s .entries) ≡ 0 → ltb 0 o && ltb (o + 1) k ≡ false → Good g (progressOf s c)
-  good-second z t =
-      let a : o ≡ lookaheadOffset g = f .state .empty z in
-      let d : 2 ≤ k = two o k (lookaheadOffset g) never later a in
-      let u : ltb (k - 2 + 1) k ≡ true = lt-ltb (k - 2 + 1) k (omega arith) in
-      let n = started-long (k - 1) (k - 2) (againOf (true && isScaled g) (itemOf s c (k - 2))) in
-      rw (eq-eqb (length (s .entries)) 0 z, t, u) (record {
-        few = omega (arith, n, f .short);
-        fewer = λ e. omega (arith, n, ltb-false (o + 1) k (and-right (ltb 0 o) (ltb (o + 1) k) t (lt-ltb 0 o (omega arith))));
-        inside = omega (arith, n);
-        spare = λ e. omega (arith, n);
-        sound = started (k - 1) (k - 2) true (omega arith) (omega arith) (f .state .sound);
-      })
-
-  -- rule 5 alone
-  good-more : (length (s .entries) ≡ 0 → ⊥) → ltb (o + 1) k ≡ true → Good g (progressOf s c)
-  good-more z t =
-      let l : o + 1 < k = ltb-true (o + 1) k t in
-      let i : o < length (s .entries) = f .state .within (positive (length (s .entries)) z) in
-      let m = againOf (false && isScaled g) (itemOf s c o) in
-      let n = score-long (isFast g) (fastThreshold g) o (c .number + o) m (s .entries) in
-      rw (ne-eqb (length (s .entries)) 0 z, t) (record {
-        few = omega (arith, n, f .state .few);
-        fewer = λ e. omega (arith, n, f .state .fewer e);
-        inside = omega (arith, n);
-        spare = λ e. omega (arith, n);
-        sound = score-sound (isFast g) (fastThreshold g) o (c .number + o) m (s .entries) (again-sound (false && isScaled g) (itemOf s c o) (item-sound o (omega arith))) (f .state .sound);
-      })
-
-  good-falls : (length (s .entries) ≡ 0 → ⊥) → ltb (o + 1) k ≡ false → Good g (progressOf s c)
-  good-falls z t =
-      let l : k ≤ o + 1 = ltb-false (o + 1) k t in
-      let i : o < length (s .entries) = f .state .within (positive (length (s .entries)) z) in
-      let p : 0 < o = above o k (lookaheadOffset g) never later l in
-      rw (ne-eqb (length (s .entries)) 0 z, t) (record {
-        few = omega (arith, f .state .few);
-        fewer = λ e. omega (arith, f .state .fewer e);
-        inside = omega arith;
-        spare = λ e. omega arith;
-        sound = f .state .sound;
-      })
-
-  good : Good g (progressOf s c)
-  good = by (eqb (length (s .entries)) 0) (ltb 0 o && ltb (o + 1) k) (ltb (o + 1) k) refl refl refl
-    where
-      by : (x y z : Bool) → eqb (length (s .entries)) 0 ≡ x → ltb 0 o && ltb (o + 1) k ≡ y → ltb (o + 1) k ≡ z → Good g (progressOf s c)
-      by true true z p q r = good-first (eqb-true _ _ p) q
-      by true false z p q r = good-second (eqb-true _ _ p) q
-      by false y true p q r = good-more (eqb-false _ _ p) r
-      by false y false p q r = good-falls (eqb-false _ _ p) r
+  good : Good (s .settings) (progressOf s c)
+  good = went (rule4 (s .settings) (c .setLength) (c .number) (itemOf s c) (s .offset) (s .entries)) (begun s c f later mode)
 
 -- rule 7 leaves a state that passes 11
 module _ (s : View) (long n : ℕ) (t : Turn) (settled : settingsFault (s .settings) ≡ 0) (w : Good (s .settings) t) where
@@ -186,7 +112,7 @@ module _ (s : View) (c : Call) (e : stateFault s ≡ 0) where
   bare-passes cut = state-same _ s refl refl refl ∙ e
 
   pub scored-passes : stepFault s c ≡ 0 → lookaheadOffset (s .settings) < c .setLength → isNone (s .settings) ≡ false → stateFault (scoredOf s c (progressOf s c) .state) ≡ 0
-  scored-passes q l m = kept s (c .setLength) (c .number) (progressOf s c) (well s e .settled) (good s c (fine s c q) m l)
+  scored-passes q l m = kept s (c .setLength) (c .number) (progressOf s c) (well s e .settled) (good s c (fine s c q) l m)
 
   pub accepted-passes : stepFault s c ≡ 0 → stateFault (acceptedOf s c .state) ≡ 0
   accepted-passes q = accepted-cases s c (λ o. stateFault (o .state) ≡ 0) bare-passes (scored-passes q)
@@ -225,7 +151,7 @@ module _ (s : View) (c : Call) (e : ScenecutResult) where
           → getD (rule7 (s .settings) (t .entries)) (t .offset) noScore ≡ e
       stands q l m h =
           let same : getD (t .entries) (t .offset) noScore ≡ e = cc in
-          entry-kept (s .settings) t (good s c (fine s c q) m l) (ltb (normalLookahead + lookaheadOffset (s .settings)) (length (t .entries))) refl ∙ same
+          entry-kept (s .settings) t (good s c (fine s c q) l m) (ltb (normalLookahead + lookaheadOffset (s .settings)) (length (t .entries))) refl ∙ same
 
 then-passes : (before : Outcome) (c : Call) → stateFault (before .state) ≡ 0 → stateFault (thenStep before c .state) ≡ 0
 then-passes before c e = by (before .answer)

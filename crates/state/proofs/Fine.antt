@@ -1,11 +1,11 @@
 -- What a call that no refusal forbids tells a proof: one record with a field for each part of the refusals, unpacked here alone, and
 -- back. Assumes nothing.
-use mathlib.Core.Path.{_≡_, refl, sym, ap}
+use mathlib.Core.Path.{_≡_, sym, ap}
 use mathlib.Core.Bool.{Bool, true, false, not, _&&_, _||_}
 use mathlib.Core.List.{List}
 use Prim.Native.Nat.{ℕ, _-_, _≤_, _<_}
 use native.Mathlib.Omega.{arith}
-use lib.Dec.{eqb, ltb, leb}
+use lib.Dec.{eqb}
 use lib.ListN.{length}
 use lib.Ieee.{Float}
 use borrow.Author.Tests.{ltb-false, leb-false, le-ltb, lt-leb, eqb-true, eqb-false, eq-eqb, ne-eqb, not-true, not-false}
@@ -36,23 +36,23 @@ pub record Fine (s : View) (c : Call) : Type 0 where
   pub threshold : readsAll (s .settings) ≡ true → Read true (c .setLength - 1) (c .threshold)
 
 -- a test that is asked only where there was a last call
-abbrev some : ℕ → Bool
-some last = not (eqb last 0)
+abbrev hasLast : ℕ → Bool
+hasLast last = not (eqb last 0)
 
-was : (last : ℕ) → (last ≡ 0 → ⊥) → some last ≡ true
+was : (last : ℕ) → (last ≡ 0 → ⊥) → hasLast last ≡ true
 was last h = ap not (ne-eqb last 0 h)
 
-was-no : (last : ℕ) → some last ≡ true → last ≡ 0 → ⊥
+was-no : (last : ℕ) → hasLast last ≡ true → last ≡ 0 → ⊥
 was-no last t = eqb-false last 0 (not-true (eqb last 0) t)
 
 -- a list
-read : (nanAllowed : Bool) (items : ℕ) (l : List Float) → badList nanAllowed items l ≡ false → Read nanAllowed items l
-read nanAllowed items l e =
+list-read : (nanAllowed : Bool) (items : ℕ) (l : List Float) → badList nanAllowed items l ≡ false → Read nanAllowed items l
+list-read nanAllowed items l e =
     let p = or-no (wrongLength items l) (holdsForbidden nanAllowed l) e in
     record { long = not-eqb (length l) items (p .0); allowed = p .1 }
 
-good : (nanAllowed : Bool) (items : ℕ) (l : List Float) → Read nanAllowed items l → badList nanAllowed items l ≡ false
-good nanAllowed items l r =
+list-good : (nanAllowed : Bool) (items : ℕ) (l : List Float) → Read nanAllowed items l → badList nanAllowed items l ≡ false
+list-good nanAllowed items l r =
     let long : wrongLength items l ≡ false = ap not (eq-eqb (length l) items (r .long)) in
     rw (long, r .allowed)
 
@@ -97,13 +97,13 @@ fine s c e =
       begun = eqb-false n 0 (n1 .0);
       small = leb-false numberLimit n (n2 .0);
       behind = ltb-false n p (n3 .0);
-      inTurn = λ h. not-eqb (n - 1) last (and-right (some last) _ (n3 .1) (was last h));
+      inTurn = λ h. not-eqb (n - 1) last (and-right (hasLast last) _ (n3 .1) (was last h));
       short = ltb-false setLimit long (l1 .0);
-      shrinks = λ h. ltb-false (s .lastLength) long (and-right (some last) _ (l1 .1) (was last h));
+      shrinks = λ h. ltb-false (s .lastLength) long (and-right (hasLast last) _ (l1 .1) (was last h));
       goes = going g o long (passed 8 _ (r4 .0));
-      inter = λ h. read false k (c .inter) (and-right (readsInter g) _ (d1 .0) h);
-      importance = λ h. read true k (c .importance) (d2 h .0);
-      threshold = λ h. read true k (c .threshold) (d2 h .1);
+      inter = λ h. list-read false k (c .inter) (and-right (readsInter g) _ (d1 .0) h);
+      importance = λ h. list-read true k (c .importance) (d2 h .0);
+      threshold = λ h. list-read true k (c .threshold) (d2 h .1);
     }
 
 pub accepts : (s : View) (c : Call) → Fine s c → stepFault s c ≡ 0
@@ -119,13 +119,13 @@ accepts s c f =
     let begun : noNumber n ≡ false = ne-eqb n 0 (f .begun) in
     let small : numberTooLarge n ≡ false = lt-leb numberLimit n (f .small) in
     let behind : keyframeAhead n p ≡ false = le-ltb n p (f .behind) in
-    let inTurn : outOfTurn last n ≡ false = not-both (some last) _ (λ t. ap not (eq-eqb (n - 1) last (f .inTurn (was-no last t)))) in
+    let inTurn : outOfTurn last n ≡ false = not-both (hasLast last) _ (λ t. ap not (eq-eqb (n - 1) last (f .inTurn (was-no last t)))) in
     let short : setTooLong long ≡ false = le-ltb setLimit long (f .short) in
-    let shrinks : setGrows last (s .lastLength) long ≡ false = not-both (some last) _ (λ t. le-ltb (s .lastLength) long (f .shrinks (was-no last t))) in
+    let shrinks : setGrows last (s .lastLength) long ≡ false = not-both (hasLast last) _ (λ t. le-ltb (s .lastLength) long (f .shrinks (was-no last t))) in
     let goes : stops g o long ≡ false = on g o long (f .goes) in
-    let inter : readsInter g && badList false k (c .inter) ≡ false = not-both (readsInter g) _ (λ h. good false k (c .inter) (f .inter h)) in
+    let inter : readsInter g && badList false k (c .inter) ≡ false = not-both (readsInter g) _ (λ h. list-good false k (c .inter) (f .inter h)) in
     let rest : readsAll g && (badList true k (c .importance) || badList true k (c .threshold)) ≡ false
-    = not-both (readsAll g) _ (λ h. rw (good true k (c .importance) (f .importance h), good true k (c .threshold) (f .threshold h))) in
+    = not-both (readsAll g) _ (λ h. rw (list-good true k (c .importance) (f .importance h), list-good true k (c .threshold) (f .threshold h))) in
     sym (or-later 0 (stateFault s) _ (sym (passes s (f .state)))
     (or-later 0 (numberFault last n p) _ (rw (begun, small, behind, inTurn))
     (or-later 0 (lengthFault last (s .lastLength) long) _ (rw (short, shrinks))

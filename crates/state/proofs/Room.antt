@@ -1,4 +1,4 @@
--- A state's deque has room for 16 entries, and a count above them is refused as their number is.
+-- A state's deque has as many entries as there is room, and a count above them is refused as their number is.
 -- Assumes nothing.
 use mathlib.Core.Path.{_≡_, refl}
 use mathlib.Core.Bool.{Bool, true, false}

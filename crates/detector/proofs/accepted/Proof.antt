@@ -5,12 +5,13 @@ use mathlib.Core.Bool.{Bool, true, false, not}
 use mathlib.Core.List.{List}
 use mathlib.Core.Option.{some}
 use Prim.Native.Nat.{ℕ, _+_, _-_, _<_}
-use borrow.Author.Tests.{le-leb, lt-leb, eq-eqb, ne-eqb, eqb-true}
+use borrow.Author.Tests.{le-leb, lt-leb, eq-eqb, ne-eqb}
 use denote.Ref.{now}
 use lib.ListN.{length, getD}
 use Rattle.answer.specs.Answer.{gives}
 use Rattle.score.specs.declared.ScenecutResult.{ScenecutResult}
 use Rattle.settings.specs.Settings.{room, normalLookahead, lookaheadOffset, isNone, isFast}
+use Rattle.settings.proofs.Laws.{lookahead-small}
 use Rattle.score.specs.Deque.{content, noScore, trimmedTo}
 use Rattle.score.proofs.Room.{long-min, entries-of, exact-of}
 use Rattle.state.specs.State.{View, Call, view, call}
@@ -21,7 +22,7 @@ use Rattle.detector.specs.Step.{Outcome, itemOf, progressOf, bareOf, sco
 use Rattle.detector.specs.Rules.{Turn, rule5, rule6, rule7, nextOf}
 use Rattle.detector.specs.Needs.{Covers, turn}
 use Rattle.detector.proofs.Cases.{stays, silent, goes-on}
-use Rattle.detector.proofs.Starts.{lookahead-small, above, two}
+use Rattle.detector.proofs.Begins.{empty, begun}
 use native.Mathlib.Omega.{arith}
 use borrow.Author.Needs.{needs}
 use Rattle.detector.proofs.accepted.Statement.{statement}
@@ -107,28 +108,21 @@ returns-2 c =
 initialized-requires : tie.Need-initialized-requires
 initialized-requires c κs =
     let s = start (c .before .before) in
-    let f = at s in
-    let h = f .state in
-    let n = counted s in
-    let g = s .args .s .settings in
-    let o = s .args .s .offset in
-    let l = later (c .before .before) in
-    let never : s .args .length ≡ 1 → lookaheadOffset g ≡ 0 → o ≡ 0 → ⊥ = λ i j k. c .if2 .left (eqb-true (g .mode) 0 (f .goes i j k)) in (
+    let f = at s in (
       record {
-        few = omega (arith, h .few);
         short = f .short;
         small = f .small;
-        empty = λ z. let e = h .empty (n ∙ z) in (omega arith, two o (s .args .length) (lookaheadOffset g) never l e);
-        within = λ z. omega (arith, h .within (omega arith));
-        falls = above o (s .args .length) (lookaheadOffset g) never l;
+        empty = λ z. empty (view (s .args .s)) (given s) f (later (c .before .before)) (ne-eqb _ _ (c .if2 .left)) (counted s ∙ z);
       },
       covered c,
     )
 
 advanced-requires : tie.Need-advanced-requires
 advanced-requires c κs =
-    let s = start (c .before .before .before) in
-    ((c .initialized .ensures .1, at s .small), covered (c .before))
+    let e = c .before .before .before in
+    let s = start e in
+    let b = begun (view (s .args .s)) (given s) (at s) (later e) (ne-eqb _ _ (c .before .if2 .left)) in
+    ((rw (c .initialized .ensures) (b .ready), at s .small), covered (c .before))
 
 decided-requires : tie.Need-decided-requires
 decided-requires c κs = search needs
@@ -165,7 +159,7 @@ returns-3 c =
     let k = rw (a .lookahead-offset .ensures) at (lt-leb _ _ (e1 .if1 .left)) in
     let d = q .advanced .result .deque in
     let t : turn (q .advanced .result) ≡ progressOf v w
-    = q .advanced .ensures ∙ ap (rule5 g (w .setLength) (w .number) (itemOf v w)) (b .initialized .ensures .0) in
+    = q .advanced .ensures ∙ ap (rule5 g (w .setLength) (w .number) (itemOf v w)) (b .initialized .ensures) in
     let cut : de .decided .result ≡ rule6 g (w .number - w .keyframe) (progressOf v w) = de .decided .ensures ∙ ap (rule6 g (w .number - w .keyframe)) t in
     let score : en .entry .result ≡ getD (progressOf v w .entries) (progressOf v w .offset) noScore
     = en .entry .ensures ∙ ap (λ (u : Turn). getD (u .entries) (u .offset) noScore) t in

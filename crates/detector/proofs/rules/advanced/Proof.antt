@@ -58,7 +58,7 @@ returns c =
     let q = a .q in
     let m = againOf (q .again && isScaled g) (measureOf (isFast g) (now (a .inter)) (now (a .importance)) (now (a .threshold)) (q .offset)) in
     let x = scoreOf (isFast g) (fastThreshold g) (q .offset) (a .n + q .offset) m (content (q .deque)) in
-    let fits : length (content (q .deque)) < room = omega (arith, s .pre .0 .0 .exact, s .pre .0 .0 .few) in
+    let fits : length (content (q .deque)) < room = s .pre .0 .0 .few in
     let e : content (c .run-comparison .result) ≡ x
     = entries-of (c .run-comparison .result) _ (c .run-comparison .ensures)
     ∙ rw (again .measured-again .ensures, measured .measure-at .ensures, sc .scaled .ensures, level .fast-threshold .ensures)
