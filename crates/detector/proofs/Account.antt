@@ -1,10 +1,8 @@
 -- Calls one after the other: parts of a run, what every run keeps, and that the code's run is the account of specs/Runs.antt.
 -- Assumes nothing.
-use mathlib.Core.Path.{_≡_, refl, sym, _∙_, ap}
-use mathlib.Core.Bool.{Bool, true, false, _&&_}
+use mathlib.Core.Path.{_≡_, refl, _∙_, ap}
+use mathlib.Core.Bool.{true, false, _&&_, true≢false}
 use mathlib.Core.List.{List, [], _∷_, _++_}
-use Prim.Native.Nat.{ℕ}
-use native.Mathlib.Omega.{arith}
 use borrow.Author.Tests.{eq-eqb, eqb-true}
 use lib.Dec.{eqb}
 use Rattle.answer.specs.Answer.{Answer, gives, refused}
@@ -67,6 +65,13 @@ pub accepted-more : (s : View) (cs : List Call) (c : Call) → allAccepted s cs 
 unfolding allAccepted
 accepted-more s cs c p e = accepted-both s cs (c ∷ []) p (rw (eq-eqb (stepFault (stateAfter s cs) c) 0 e))
 
+-- the state after a run names its last call
+pub last-call : (s : View) (cs : List Call) (c : Call) → allAccepted s (cs ++ (c ∷ [])) ≡ true
+    → (stateAfter s (cs ++ (c ∷ [])) .lastNumber ≡ c .number) × (stateAfter s (cs ++ (c ∷ [])) .lastLength ≡ c .setLength)
+last-call s cs c e =
+    let w = leaves (stateAfter s cs) c (accepted-last s cs c e .1) in
+    rw (after-last s cs c) (w .number, w .size)
+
 -- ---- what every run keeps
 
 -- every state of a run passes 11
@@ -98,7 +103,7 @@ then-next o c h = by (o .answer) h
   where
     by : (a : Answer Verdict) → isRefused a ≡ false → next a o (stepOf (o .state) c) ≡ stepOf (o .state) c
     by (gives v) h = refl
-    by (refused f) h = absurd (let z : _≡_ {A = ℕ} 0 1 = cc in omega arith)
+    by (refused f) h = absurd (true≢false h)
 
 -- where every call is accepted, `runOf` leaves the state after them
 pub run-after : (o : Outcome) (cs : List Call) → isRefused (o .answer) ≡ false → allAccepted (o .state) cs ≡ true

@@ -11,9 +11,8 @@ use Rattle.state.specs.Refusals.{stateFault, stepFault}
 use Rattle.detector.specs.Fresh.{freshView}
 use Rattle.detector.specs.Step.{stepOf}
 use Rattle.detector.specs.Runs.{stateAfter}
-use Rattle.detector.proofs.Cases.{leaves}
 use Rattle.detector.proofs.Reach.{fresh-passes}
-use Rattle.detector.proofs.Account.{after-none, after-last, accepted-none, accepted-parts, accepted-last, accepted-more, after-passes, settings-after}
+use Rattle.detector.proofs.Account.{after-none, after-last, accepted-none, accepted-parts, accepted-last, accepted-more, last-call, after-passes, settings-after}
 use Rattle.meeting.specs.Films.{Film, callAt, callsFrom, runFrom}
 use Rattle.meeting.specs.Meeting.{Accepted}
 
@@ -70,8 +69,6 @@ module _ (f : Film) (g : Settings) where
   pub run-passes : (a j : ℕ) → settingsFault g ≡ 0 → stateFault (runFrom f g a j) ≡ 0
   run-passes a j e = after-passes (freshView g) (callsFrom f a j) (fresh-passes g e)
 
-  pub last-number : (a j : ℕ) → Accepted f g a (suc j) → runFrom f g a (suc j) .lastNumber ≡ a + j
-  last-number a j t = rw (run-next a j) (leaves (runFrom f g a j) (callAt f (a + j)) (accepted-next a j t .1) .number)
-
-  pub last-length : (a j : ℕ) → Accepted f g a (suc j) → runFrom f g a (suc j) .lastLength ≡ f .lengths (a + j)
-  last-length a j t = rw (run-next a j) (leaves (runFrom f g a j) (callAt f (a + j)) (accepted-next a j t .1) .size)
+  pub last : (a j : ℕ) → Accepted f g a (suc j)
+      → (runFrom f g a (suc j) .lastNumber ≡ a + j) × (runFrom f g a (suc j) .lastLength ≡ f .lengths (a + j))
+  last a j t = rw (calls-last f a j) (last-call (freshView g) (callsFrom f a j) (callAt f (a + j)) (rw (calls-last f a j) at t))

@@ -35,9 +35,9 @@ enough : (fast : Bool) (j : ℕ) → callsToMeet fast ≤ suc j → pairsNeeded 
 enough true j h = omega arith
 enough false j h = omega arith
 
-some : (fast : Bool) → callsToMeet fast ≤ 0 → ⊥
-some true h = omega arith
-some false h = omega arith
+some-calls : (fast : Bool) → callsToMeet fast ≤ 0 → ⊥
+some-calls true h = omega arith
+some-calls false h = omega arith
 
 module _ (f : Film) (g : Settings) where
   pub closed-entries-meet : (a d j : ℕ) → callsToMeet (isFast g) ≤ suc j → closedDeque f g a (d + j) ≡ closedDeque f g (a + d) j
@@ -61,7 +61,7 @@ module _ (f : Film) (g : Settings) where
 
   meets : Suits g → (a d j : ℕ) → callsToMeet (isFast g) ≤ j → Accepted f g a (d + j) → FullSets f a (d + j) → Accepted f g (a + d) j
       → compared (runFrom f g a (d + j)) ≡ compared (runFrom f g (a + d) j)
-  meets suits a d zero h t full u = absurd (some (isFast g) h)
+  meets suits a d zero h t full u = absurd (some-calls (isFast g) h)
   meets suits a d (suc j) h t full u =
       let e : d + suc j ≡ suc (d + j) = omega arith in
       rw e (run-closed f g suits a (d + j) (rw e at t) (λ n h l. full n h (omega arith)))

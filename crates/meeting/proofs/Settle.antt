@@ -79,14 +79,14 @@ module _ (f : Film) (g : Settings) (suits : Suits g) where
       rw (see (freshView g) n k refl (omega arith), items n k (omega arith)) (scored (n + k) (history (f .pairs) n k))
 
   -- the entries of the k pairs from a on
-  abbrev after : ℕ → ℕ → List ScenecutResult
-  after a k = closedEntriesOf fast level [] (history (f .pairs) a k)
+  abbrev entriesAfter : ℕ → ℕ → List ScenecutResult
+  entriesAfter a k = closedEntriesOf fast level [] (history (f .pairs) a k)
 
-  after-long : (a k : ℕ) → length (after a k) ≡ k
+  after-long : (a k : ℕ) → length (entriesAfter a k) ≡ k
   after-long a k = entries-long level fast [] (history (f .pairs) a k) ∙ history-long (f .pairs) a k
 
-  abbrev left : ℕ → List ScenecutResult → View
-  left n l = record {
+  abbrev stateWith : ℕ → List ScenecutResult → View
+  stateWith n l = record {
     settings = g;
     entries = l;
     count = length l;
@@ -97,8 +97,8 @@ module _ (f : Film) (g : Settings) (suits : Suits g) where
     release = 0;
   }
 
-  abbrev turn : List ScenecutResult → Turn
-  turn l = record { entries = l; offset = span; again = false }
+  abbrev turnWith : List ScenecutResult → Turn
+  turnWith l = record { entries = l; offset = span; again = false }
 
   module _ (n : ℕ) (h : fullSet ≤ f .lengths n) where
     longer : ltb (span + 1) (f .lengths n) ≡ true
@@ -106,28 +106,28 @@ module _ (f : Film) (g : Settings) (suits : Suits g) where
 
     -- rule 5 scores pair n + 5
     rule5-scores : (s : View) (l : List ScenecutResult) → s .settings ≡ g
-        → rule5 g (f .lengths n) n (itemOf s (callAt f n)) (turn l) ≡ turn (scoreOf fast level span (n + span) (seenOf fast (f .pairs (n + span))) l)
+        → rule5 g (f .lengths n) n (itemOf s (callAt f n)) (turnWith l) ≡ turnWith (scoreOf fast level span (n + span) (seenOf fast (f .pairs (n + span))) l)
     rule5-scores s l e = rw (longer, see s n span e (omega arith))
 
     -- the first call scores six pairs
-    first-turn : progressOf (freshView g) (callAt f n) ≡ turn (after n (suc span))
+    first-turn : progressOf (freshView g) (callAt f n) ≡ turnWith (entriesAfter n (suc span))
     unfolding history
     first-turn =
-        let four : rule4 g (f .lengths n) n (itemOf (freshView g) (callAt f n)) span [] ≡ turn (after n span) = rw (longer, items n span (omega arith)) in
-        rw (ahead, four, rule5-scores (freshView g) (after n span) refl, scored (n + span) (history (f .pairs) n span))
+        let four : rule4 g (f .lengths n) n (itemOf (freshView g) (callAt f n)) span [] ≡ turnWith (entriesAfter n span) = rw (longer, items n span (omega arith)) in
+        rw (ahead, four, rule5-scores (freshView g) (entriesAfter n span) refl, scored (n + span) (history (f .pairs) n span))
 
-    begun : stepFault (freshView g) (callAt f n) ≡ 0 → compared (stepOf (freshView g) (callAt f n) .state) ≡ left n (take keeps (after n (suc span)))
+    begun : stepFault (freshView g) (callAt f n) ≡ 0 → compared (stepOf (freshView g) (callAt f n) .state) ≡ stateWith n (take keeps (entriesAfter n (suc span)))
     begun r =
-        let few : length (after n (suc span)) ≤ suc keeps = omega (arith, after-long n (suc span)) in
-        rw (step-scored (freshView g) (callAt f n) r (rw offset (omega arith)) (suits .mode), first-turn, ahead) (ap (left n) (trim keeps (after n (suc span)) few))
+        let few : length (entriesAfter n (suc span)) ≤ suc keeps = omega (arith, after-long n (suc span)) in
+        rw (step-scored (freshView g) (callAt f n) r (rw offset (omega arith)) (suits .mode), first-turn, ahead) (ap (stateWith n) (trim keeps (entriesAfter n (suc span)) few))
 
     -- each further call scores one
     next-turn : (m : ℕ) (l : List ScenecutResult) → (length l ≡ 0 → ⊥)
-        → progressOf (left m l) (callAt f n) ≡ turn (scoreOf fast level span (n + span) (seenOf fast (f .pairs (n + span))) l)
-    next-turn m l some = rw (ne-eqb (length l) 0 some) (rule5-scores (left m l) l refl)
+        → progressOf (stateWith m l) (callAt f n) ≡ turnWith (scoreOf fast level span (n + span) (seenOf fast (f .pairs (n + span))) l)
+    next-turn m l some = rw (ne-eqb (length l) 0 some) (rule5-scores (stateWith m l) l refl)
 
-    went : (m : ℕ) (past : List Item) → 0 < length past → stepFault (left m (take keeps (closedEntriesOf fast level [] past))) (callAt f n) ≡ 0
-        → compared (stepOf (left m (take keeps (closedEntriesOf fast level [] past))) (callAt f n) .state) ≡ left n (take keeps (closedEntriesOf fast level [] (item (n + span) ∷ past)))
+    went : (m : ℕ) (past : List Item) → 0 < length past → stepFault (stateWith m (take keeps (closedEntriesOf fast level [] past))) (callAt f n) ≡ 0
+        → compared (stepOf (stateWith m (take keeps (closedEntriesOf fast level [] past))) (callAt f n) .state) ≡ stateWith n (take keeps (closedEntriesOf fast level [] (item (n + span) ∷ past)))
     went m past some r =
         let was = closedEntriesOf fast level [] past in
         let now = closedEntriesOf fast level [] (item (n + span) ∷ past) in
@@ -136,11 +136,11 @@ module _ (f : Film) (g : Settings) (suits : Suits g) where
         = score-take level fast (n + span) (seenOf fast (f .pairs (n + span))) keeps was (omega arith) ∙ ap (take (suc keeps)) (scored (n + span) past) in
         let few : length (take (suc keeps) now) ≤ suc keeps = omega (arith, length-take (suc keeps) now) in
         rw (
-          step-scored (left m (take keeps was)) (callAt f n) r (rw offset (omega arith)) (suits .mode),
+          step-scored (stateWith m (take keeps was)) (callAt f n) r (rw offset (omega arith)) (suits .mode),
           next-turn m (take keeps was) (λ z. omega (arith, length-take keeps was)),
           e,
           ahead,
-        ) (ap (left n) (trim keeps (take (suc keeps) now) few ∙ take-take keeps (suc keeps) now (omega arith)))
+        ) (ap (stateWith n) (trim keeps (take (suc keeps) now) few ∙ take-take keeps (suc keeps) now (omega arith)))
 
   -- the pair that call a + j + 1 scores is the next of the history
   newest : (a j : ℕ) → item (a + suc j + span) ∷ history (f .pairs) a (suc (span + j)) ≡ history (f .pairs) a (suc (span + suc j))
@@ -155,7 +155,7 @@ module _ (f : Film) (g : Settings) (suits : Suits g) where
   run-closed a zero t full =
       rw (run-next f g a 0, run-none f g a)
       (begun (a + 0) (full (a + 0) (omega arith) (omega arith)) (rw (run-none f g a) at (accepted-next f g a 0 t .1))
-      ∙ ap (λ (k : ℕ). left (a + 0) (take keeps (after k (suc span)))) (add-zero a))
+      ∙ ap (λ (k : ℕ). stateWith (a + 0) (take keeps (entriesAfter k (suc span)))) (add-zero a))
   run-closed a (suc j) t full =
       let s = runFrom f g a (suc j) in
       let c = callAt f (a + suc j) in
@@ -167,4 +167,4 @@ module _ (f : Film) (g : Settings) (suits : Suits g) where
       ∙ sym (step-blind s c 0 0 .1)
       ∙ ap (λ (v : View). compared (stepOf v c .state)) e
       ∙ went (a + suc j) (full (a + suc j) (omega arith) (omega arith)) (a + j) h (omega (arith, history-long (f .pairs) a (suc (span + j)))) r
-      ∙ ap (λ (l : List Item). left (a + suc j) (take keeps (closedEntriesOf fast level [] l))) (newest a j)
+      ∙ ap (λ (l : List Item). stateWith (a + suc j) (take keeps (closedEntriesOf fast level [] l))) (newest a j)

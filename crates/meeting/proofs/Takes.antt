@@ -11,7 +11,7 @@ use Rattle.state.proofs.Well.{well}
 use Rattle.state.proofs.Fine.{Fine, fine, accepts}
 use Rattle.meeting.specs.Films.{Film, callAt, runFrom}
 use Rattle.meeting.specs.Meeting.{Accepted, FullSets}
-use Rattle.meeting.proofs.FilmLaws.{run-none, none-accepted, one-accepted, shorter, accepted-at, run-settings, run-passes, last-number, last-length}
+use Rattle.meeting.proofs.FilmLaws.{run-none, none-accepted, one-accepted, shorter, accepted-at, run-settings, run-passes, last}
 
 -- the old run from a on, and the fresh one from a + d on
 module _ (f : Film) (g : Settings) (a d j : ℕ) (t : Accepted f g a (d + j)) (full : FullSets f a (d + j)) where
@@ -21,25 +21,25 @@ module _ (f : Film) (g : Settings) (a d j : ℕ) (t : Accepted f g a (d + j)) (f
       rw e at (fine (runFrom f g a (d + i)) (callAt f (a + (d + i))) (accepted-at f g a (d + i) (d + j) (omega arith) t))
 
   -- a fresh detector has no last call
-  begins : runFrom f g (a + d) 0 .lastNumber ≡ 0
-  begins = ap (λ (s : View). s .lastNumber) (run-none f g (a + d))
+  no-last : runFrom f g (a + d) 0 .lastNumber ≡ 0
+  no-last = ap (λ (s : View). s .lastNumber) (run-none f g (a + d))
 
   in-turn : (i : ℕ) → Accepted f g (a + d) i → (runFrom f g (a + d) i .lastNumber ≡ 0 → ⊥) → a + d + i - 1 ≡ runFrom f g (a + d) i .lastNumber
-  in-turn zero u h = absurd (h begins)
-  in-turn (suc i) u h = omega (arith, last-number f g (a + d) i u)
+  in-turn zero u h = absurd (h no-last)
+  in-turn (suc i) u h = omega (arith, last f g (a + d) i u .0)
 
   shrinks : (i : ℕ) → i < j → Accepted f g (a + d) i → (runFrom f g (a + d) i .lastNumber ≡ 0 → ⊥)
       → f .lengths (a + d + i) ≤ runFrom f g (a + d) i .lastLength
-  shrinks zero l u h = absurd (h begins)
+  shrinks zero l u h = absurd (h no-last)
   shrinks (suc i) l u h =
       let more : d + suc i ≡ suc (d + i) = omega arith in
       let same : a + (d + i) ≡ a + d + i = omega arith in
       let v = shorter f g a (suc (d + i)) (d + j) (omega arith) t in
       let w = rw more at (old (suc i) l) in
       let begun = old i (omega arith) .begun in
-      let size : runFrom f g a (suc (d + i)) .lastLength ≡ f .lengths (a + d + i) = rw same at (last-length f g a (d + i) v) in
-      let less = w .shrinks (λ z. begun (omega (arith, last-number f g a (d + i) v))) in
-      omega (arith, last-length f g (a + d) i u)
+      let size : runFrom f g a (suc (d + i)) .lastLength ≡ f .lengths (a + d + i) = rw same at (last f g a (d + i) v .1) in
+      let less = w .shrinks (λ z. begun (omega (arith, last f g a (d + i) v .0))) in
+      omega (arith, last f g (a + d) i u .1)
 
   -- call a + d + i of the fresh run
   now : (i : ℕ) → i < j → Accepted f g (a + d) i → Fine (runFrom f g (a + d) i) (callAt f (a + d + i))

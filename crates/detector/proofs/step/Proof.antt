@@ -1,18 +1,13 @@
 -- `step` meets its contract: the refusal is asked for first, and its branch returns the state that it was given; without one the rules
 -- are those of an accepted call, which is no refusal.
 -- Assumes nothing.
-use mathlib.Core.Path.{_≡_, refl, sym, _∙_, ap}
-use mathlib.Core.Bool.{Bool, true, false}
-use Prim.Native.Nat.{ℕ}
-use native.Mathlib.Omega.{arith}
+use mathlib.Core.Path.{refl, sym, _∙_, ap}
+use mathlib.Core.Bool.{true≢false}
 use Rattle.detector.specs.Step.{Outcome, isRefused}
 use Rattle.detector.proofs.Cases.{accepted-leaves, step-accepted, step-refused}
 use borrow.Author.Needs.{needs}
 use Rattle.detector.proofs.step.Statement.{statement}
 use Rattle.detector.proofs.step.Tie as tie
-
-clash : true ≡ false → ⊥
-clash e = let z : _≡_ {A = ℕ} 0 1 = cc in omega arith
 
 step-fault-requires : tie.Need-step-fault-requires
 step-fault-requires c κs = search needs
@@ -29,7 +24,7 @@ returns-2 : tie.Need-returns-2
 returns-2 c =
     let e = sym (c .before .before .step-fault .ensures) ∙ c .before .if1 .left in (
       c .accepted .ensures ∙ sym (step-accepted _ _ e),
-      λ h. absurd (clash (sym h ∙ ap (λ (o : Outcome). isRefused (o .answer)) (c .accepted .ensures) ∙ accepted-leaves _ _ .decided)),
+      λ h. absurd (true≢false (sym h ∙ ap (λ (o : Outcome). isRefused (o .answer)) (c .accepted .ensures) ∙ accepted-leaves _ _ .decided)),
     )
 
 pub step-spec : {M : Type 1} → statement M
