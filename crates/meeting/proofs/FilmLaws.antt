@@ -6,7 +6,7 @@ use native.Mathlib.Nat.{zero-add, suc-add, add-zero}
 use native.Mathlib.Omega.{arith}
 use Rattle.settings.specs.declared.Settings.{Settings}
 use Rattle.settings.specs.Settings.{settingsFault}
-use Rattle.state.specs.State.{View, Call}
+use Rattle.state.specs.State.{Call}
 use Rattle.state.specs.Refusals.{stateFault, stepFault}
 use Rattle.detector.specs.Fresh.{freshView}
 use Rattle.detector.specs.Step.{stepOf}

@@ -13,7 +13,7 @@ use lib.Ieee.{Float, nan}
 use borrow.Author.Tests.{lt-ltb, le-leb, ne-eqb}
 use Rattle.sums.proofs.TableLaws.{table-at}
 use Rattle.settings.specs.declared.Settings.{Settings}
-use Rattle.settings.specs.Settings.{normalLookahead, lookaheadOffset, isNone, isFast, fastThreshold}
+use Rattle.settings.specs.Settings.{normalLookahead, lookaheadOffset, isFast, fastThreshold}
 use Rattle.score.specs.declared.ScenecutResult.{ScenecutResult}
 use Rattle.score.specs.declared.Measure.{Measure}
 use Rattle.score.specs.Scores.{zeroF, scoreOf}
