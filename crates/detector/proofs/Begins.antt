@@ -9,19 +9,21 @@ use native.Mathlib.Omega.{arith}
 use borrow.Author.Tests.{lt-ltb, ltb-true, ltb-false, eqb-true, eqb-false}
 use lib.Dec.{eqb, ltb}
 use lib.ListN.{length}
+use lib.Ieee.{nan}
 use Rattle.settings.specs.declared.Settings.{Settings}
 use Rattle.settings.specs.Settings.{normalLookahead, lookaheadOffset, isNone, isFast, fastThreshold}
 use Rattle.settings.proofs.Laws.{lookahead-small}
 use Rattle.score.specs.declared.ScenecutResult.{ScenecutResult}
 use Rattle.score.specs.Costs.{forbidden}
+use Rattle.score.proofs.Counts.{none-at}
+use Rattle.score.proofs.Scored.{Sound}
 use Rattle.state.specs.State.{View, Call}
 use Rattle.state.proofs.Tests.{and-right, and-both, positive}
 use Rattle.state.proofs.Fine.{Fine}
 use Rattle.detector.specs.Rules.{Turn, itemsOf, rule4}
 use Rattle.detector.specs.Step.{itemOf}
 use Rattle.detector.specs.Needs.{Ready}
-use Rattle.detector.proofs.Long.{items-long}
-use Rattle.detector.proofs.Costs.{Sound, items-sound, list-sound}
+use Rattle.detector.proofs.Items.{items-long, items-sound}
 
 pub record Begun (g : Settings) (k : ℕ) (t : Turn) : Type 0 where
   pub ready : Ready k t
@@ -42,7 +44,7 @@ module _ (s : View) (c : Call) (f : Fine s c) (later : lookaheadOffset (s .setti
   pub item-sound : (i : ℕ) → i < k - 1 → forbidden false (itemOf s c i .inter) ≡ false
   item-sound i h =
       let r = f .inter (ap not mode) in
-      list-sound (c .inter) i (omega (arith, r .long)) (r .allowed)
+      none-at (forbidden false) (c .inter) i nan (omega (arith, r .long)) (r .allowed)
 
   -- refusal 9 is not given
   never : k ≡ 1 → lookaheadOffset g ≡ 0 → o ≡ 0 → ⊥
@@ -65,10 +67,10 @@ module _ (s : View) (c : Call) (f : Fine s c) (later : lookaheadOffset (s .setti
   items q = itemsOf (isFast g) (fastThreshold g) o (c .number) (itemOf s c) q (s .entries)
 
   scored : (q : ℕ) → q ≤ k - 1 → Sound (items q)
-  scored q h = items-sound (isFast g) (fastThreshold g) o (c .number) (itemOf s c) q (s .entries) (λ i u. item-sound i (omega arith)) (f .state .sound)
+  scored q h = items-sound (isFast g) (fastThreshold g) o (c .number) (itemOf s c) (s .entries) q (λ i u. item-sound i (omega arith)) (f .state .sound)
 
   many : (q : ℕ) → length (items q) ≡ q + length (s .entries)
-  many q = items-long (isFast g) (fastThreshold g) o (c .number) (itemOf s c) q (s .entries)
+  many q = items-long (isFast g) (fastThreshold g) o (c .number) (itemOf s c) (s .entries) q
 
   pub begun : Begun g k (rule4 g k (c .number) (itemOf s c) o (s .entries))
   begun = by (eqb (length (s .entries)) 0) (ltb 0 o && ltb (o + 1) k) refl refl

@@ -1,7 +1,6 @@
-pub mod Long
+pub mod Items
 pub mod Calls
 pub mod Views
-pub mod Costs
 pub mod Begins
 pub mod Cases
 pub mod Reach

@@ -17,6 +17,9 @@ use Rattle.settings.specs.Settings.{room, normalLookahead, lookaheadOffset, isN
 use Rattle.settings.proofs.Laws.{lookahead-small}
 use Rattle.score.specs.declared.ScenecutResult.{ScenecutResult}
 use Rattle.score.specs.Deque.{noScore}
+use Rattle.score.specs.Costs.{forbiddenEntry}
+use Rattle.score.proofs.Counts.{any-none, none-taken}
+use Rattle.score.proofs.Scored.{Sound, score-long, score-sound}
 use Rattle.state.specs.State.{View, Call}
 use Rattle.state.specs.Refusals.{stateFault, stepFault}
 use Rattle.state.proofs.Well.{Well, well, passes, state-same}
@@ -26,9 +29,8 @@ use Rattle.detector.specs.Step.{Verdict, Outcome, itemOf, progressOf, ba
 use Rattle.detector.specs.Fresh.{freshView}
 use Rattle.detector.specs.Runs.{next, thenStep, runOf}
 use Rattle.detector.proofs.Cases.{accepted-cases, step-cases}
-use Rattle.detector.proofs.Long.{score-long}
 use Rattle.detector.proofs.Begins.{Begun, item-sound, begun}
-use Rattle.detector.proofs.Costs.{Sound, no-entry, score-sound, again-sound, take-sound}
+use Rattle.detector.proofs.Items.{again-sound}
 
 -- what rules 4 and 5 leave
 record Good (g : Settings) (t : Turn) : Type 0 where
@@ -49,13 +51,13 @@ module _ (s : View) (c : Call) (f : Fine s c) (later : lookaheadOffset (s .setti
           let o = t .offset in
           let l : o + 1 < c .setLength = ltb-true _ _ p in
           let m = againOf (t .again && isScaled g) (itemOf s c o) in
-          let n = score-long (isFast g) (fastThreshold g) o (c .number + o) m (t .entries) in
+          let n = score-long (fastThreshold g) o (c .number + o) m (t .entries) (isFast g) in
           rw p (record {
             few = omega (arith, n, b .ready .few);
             fewer = λ e. omega (arith, n, b .fewer e);
             inside = omega (arith, n, b .ready .at);
             spare = λ e. omega (arith, n, b .spare (omega (arith, n)));
-            sound = score-sound (isFast g) (fastThreshold g) o (c .number + o) m (t .entries) (again-sound (t .again && isScaled g) (itemOf s c o) (item-sound s c f later mode o (omega arith))) (b .sound);
+            sound = score-sound (fastThreshold g) o (c .number + o) m (t .entries) (isFast g) (again-sound (t .again && isScaled g) (itemOf s c o) (item-sound s c f later mode o (omega arith))) (b .sound);
           })
       by false p =
           let i = b .ready .falls (ltb-false _ _ p) in
@@ -88,7 +90,7 @@ module _ (s : View) (long n : ℕ) (t : Turn) (settled : settingsFault (s .setti
         fewer = λ a. omega (arith, w .fewer a);
         within = λ p. omega arith;
         empty = λ z. absurd (omega arith);
-        sound = take-sound (length (t .entries) - 1) (t .entries) (w .sound);
+        sound = none-taken forbiddenEntry (length (t .entries) - 1) (t .entries) (w .sound);
       }
   trimmed-well false e =
       let less : length (t .entries) ≤ normalLookahead + lookaheadOffset (s .settings) = ltb-false _ _ e in
@@ -173,7 +175,7 @@ fresh-passes g e =
       fewer = λ a. omega arith;
       within = λ p. absurd (omega arith);
       empty = λ z. refl;
-      sound = no-entry;
+      sound = any-none forbiddenEntry;
     })
 
 -- every state that calls reach from a fresh detector passes 11

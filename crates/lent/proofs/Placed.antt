@@ -11,7 +11,8 @@ use lib.Dec.{eqb}
 use lib.Ieee.{Float}
 use lib.ListN.{length, take, drop, getD, List·getD-append}
 use lib.Seq.{getD-append-add, getD-take, length-take-le}
-use Rattle.answer.specs.Answer.{gives, lentAfter}
+use Rattle.answer.specs.Answer.{gives}
+use Rattle.answer.proofs.Laws.{lent-written}
 use Rattle.settings.specs.declared.Settings.{Settings}
 use Rattle.settings.specs.Settings.{room}
 use Rattle.score.specs.declared.ScenecutResult.{ScenecutResult}
@@ -23,7 +24,7 @@ use Rattle.detector.specs.Step.{Verdict, Outcome, stepOf}
 use Rattle.detector.proofs.Cases.{decided-accepted, leaves}
 use Rattle.detector.proofs.Reach.{scoreIn, score-stands}
 use Rattle.detector.proofs.Left.{settings-kept, entries-kept, entries-few}
-use Rattle.lent.specs.Places.{numbersLong, settingsLong, scoreLong, scoresLong, isState, settingsOf, scoresOf, entriesOf, stateOf, callNumbers, placed}
+use Rattle.lent.specs.Places.{numbersLong, settingsLong, scoreLong, scoresLong, isState, settingsOf, scoresOf, entriesOf, stateOf, settingNumbers, callNumbers, placed}
 use Rattle.lent.specs.Lent.{freshFault, freshNumbers, lentStep, numbersAfter, scoresAfter}
 use Rattle.lent.proofs.Scores.{take-least}
 
@@ -106,5 +107,4 @@ module _ (ns : List ℕ) (xs : List Float) (c : Call) (is : isState ns xs ≡ tr
 
 -- the numbers of a fresh detector hold a fresh state
 pub fresh-carried : (ns : List ℕ) (xs : List Float) (g : Settings) → freshFault ns xs g ≡ 0 → stateOf (freshNumbers ns xs g) xs ≡ freshView g
-unfolding lentAfter
-fresh-carried ns xs g e = rw e
+fresh-carried ns xs g e = ap (λ (l : List ℕ). stateOf l xs) (sym (lent-written (freshFault ns xs g) (settingNumbers g ++ callNumbers (freshView g)) ns (sym e)))

@@ -12,9 +12,10 @@ use borrow.Author.Tests.{ltb-false, leb-false, le-ltb, lt-leb, eqb-true, eqb-fal
 use Rattle.answer.proofs.Laws.{or-none, or-given, or-later, passed}
 use Rattle.settings.specs.declared.Settings.{Settings}
 use Rattle.settings.specs.Settings.{setLimit, lookaheadOffset, isNone, settingsFault}
+use Rattle.score.proofs.Counts.{or-no}
 use Rattle.state.specs.State.{View, Call}
 use Rattle.state.specs.Refusals.{noNumber, numberLimit, numberTooLarge, keyframeAhead, outOfTurn, setTooLong, setGrows, stops, readsInter, readsAll, wrongLength, holdsForbidden, badList, stateFault, numberFault, lengthFault, stopFault, listsFault, stepFault}
-use Rattle.state.proofs.Tests.{or-no, and-right, not-both, not-eqb}
+use Rattle.state.proofs.Tests.{and-right, not-both, not-eqb}
 use Rattle.state.proofs.Well.{Well, well, passes, state-same, settings-unfit}
 
 -- a list that is read

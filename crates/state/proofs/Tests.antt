@@ -6,12 +6,9 @@ use Prim.Native.Nat.{ℕ, _<_}
 use native.Mathlib.Omega.{arith}
 use lib.Dec.{eqb}
 use borrow.Author.Tests.{eqb-true, not-false}
+use Rattle.score.proofs.Counts.{or-no}
 
 -- a disjunction that fails
-pub or-no : (a b : Bool) → a || b ≡ false → (a ≡ false) × (b ≡ false)
-or-no true b e = let z : _≡_ {A = ℕ} 0 1 = cc in absurd (omega arith)
-or-no false b e = (refl, e)
-
 pub or-left : (a b : Bool) → a || b ≡ false → a ≡ false
 or-left a b e = or-no a b e .0
 

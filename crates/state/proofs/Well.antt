@@ -9,9 +9,10 @@ use lib.ListN.{length}
 use borrow.Author.Tests.{ltb-false, leb-false, le-ltb, lt-leb, eq-eqb, ne-eqb, eqb-true, eqb-false, not-true}
 use Rattle.answer.proofs.Laws.{passed}
 use Rattle.settings.specs.Settings.{room, normalLookahead, lookaheadOffset, settingsFault}
+use Rattle.score.proofs.Counts.{or-no}
 use Rattle.state.specs.State.{View}
 use Rattle.state.specs.Refusals.{settingsForbidden, overRoom, overWindow, offsetPast, offsetAstray, unfit, costForbidden, stateFault}
-use Rattle.state.proofs.Tests.{or-no, and-right, not-both, not-eqb, positive}
+use Rattle.state.proofs.Tests.{and-right, not-both, not-eqb, positive}
 
 pub record Well (s : View) : Type 0 where
   pub settled : settingsFault (s .settings) ≡ 0
