@@ -20,6 +20,7 @@ use Rattle.state.specs.declared.State.{State}
 use Rattle.detector.specs.declared.Stepped.{Stepped}
 use Rattle.detector.specs.Step.{Outcome, outcome, acceptedOf, stepOf}
 use Rattle.detector.specs.Runs.{renumbered, compared}
+use Rattle.detector.proofs.Cases.{step-accepted}
 
 -- ---- the step respects the view
 
@@ -67,6 +68,32 @@ alike s t c e =
     let y = step-blind t c 0 0 in
     let z = ap (λ (v : View). stepOf v c) e in
     (sym (x .0) ∙ ap (λ (o : Outcome). o .answer) z ∙ y .0, sym (x .1) ∙ ap (λ (o : Outcome). compared (o .state)) z ∙ y .1)
+
+-- ---- nor does the count: it is in the view so that a refused state is seen whole
+
+module _ (s : View) (c : Call) (k : ℕ) where
+  abbrev recounted : View
+  recounted = record {
+    settings = s .settings;
+    entries = s .entries;
+    count = k;
+    offset = s .offset;
+    lastNumber = s .lastNumber;
+    lastLength = s .lastLength;
+    firstNumber = s .firstNumber;
+    release = s .release;
+  }
+
+  pub fault-uncounted : stepFault recounted c ≡ stepFault s c
+  fault-uncounted = step-same recounted s c refl refl refl refl refl
+
+  accepted-uncounted : acceptedOf recounted c ≡ acceptedOf s c
+  unfolding acceptedOf
+  accepted-uncounted = refl
+
+  -- an accepted call gives the same outcome whatever the count was
+  pub step-uncounted : stepFault s c ≡ 0 → stepOf recounted c ≡ stepOf s c
+  step-uncounted e = step-accepted recounted c (fault-uncounted ∙ e) ∙ accepted-uncounted ∙ sym (step-accepted s c e)
 
 -- ---- in Fast mode a list that is not read may be anything
 

@@ -8,9 +8,8 @@ use Rattle.score.specs.Deque.{content}
 use Rattle.state.specs.declared.State.{State}
 
 -- the settings, the entries with the front first, the deque's own count, the offset o, and the last accepted call's number and length,
--- the first one's number and the release number. No rule and no refusal reads the count: they go by the entries. It stands here
--- so that states with different counts have different views, also where both counts lie past the array and 11 refuses both: a
--- refused call gives back the count that it was given
+-- the first one's number and the release number. No rule and no refusal reads the count, since all go by the entries. It is here so
+-- that two counts past the array, which have the same entries, are told apart: a refused call gives back the one that it was given
 pub record View : Type 0 where
   pub settings : Settings
   pub entries : List ScenecutResult
