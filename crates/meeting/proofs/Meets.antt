@@ -40,8 +40,8 @@ some-calls true h = omega arith
 some-calls false h = omega arith
 
 module _ (f : Film) (g : Settings) where
-  pub closed-entries-meet : (a d j : ℕ) → callsToMeet (isFast g) ≤ suc j → closedDeque f g a (d + j) ≡ closedDeque f g (a + d) j
-  closed-entries-meet a d j h =
+  pub closed-deques-meet : (a d j : ℕ) → callsToMeet (isFast g) ≤ suc j → closedDeque f g a (d + j) ≡ closedDeque f g (a + d) j
+  closed-deques-meet a d j h =
       let fast = isFast g in
       let level = fastThreshold g in
       let m = pairsNeeded fast keeps in
@@ -57,7 +57,7 @@ module _ (f : Film) (g : Settings) where
   pub closed-meet : (a d j : ℕ) → callsToMeet (isFast g) ≤ suc j → closedState f g a (d + j) ≡ closedState f g (a + d) j
   closed-meet a d j h =
       let e : a + (d + j) ≡ a + d + j = omega arith in
-      rw (e, closed-entries-meet a d j h)
+      rw (e, closed-deques-meet a d j h)
 
   meets : Suits g → (a d j : ℕ) → callsToMeet (isFast g) ≤ j → Accepted f g a (d + j) → FullSets f a (d + j) → Accepted f g (a + d) j
       → compared (runFrom f g a (d + j)) ≡ compared (runFrom f g (a + d) j)
