@@ -5,11 +5,12 @@ ghost use Prim.Native.Nat.{_≤_};
 ghost use lib.ListN.{length, take, drop};
 ghost use Rattle.score.specs.Deque.{content};
 ghost use Rattle.state.specs.State.{view, call};
-ghost use Rattle.detector.specs.Step.{stepAnswer};
+ghost use Rattle.detector.specs.Step.{stepAnswer, outcome};
 ghost use Rattle.lent.specs.Places.{numbersLong, settingsLong, scoreLong, scoresLong, settingsOf, frontScore, entriesOf, stateOf, settingNumbers, callNumbers, doubles, placed};
 ghost use Rattle.lent.specs.Lent.{freshFault, freshNumbers, lentStep, numbersAfter, scoresAfter};
 use detector::Decision;
 use detector::StepAnswer;
+use detector::Stepped;
 use score::ScenecutResult;
 use score::ScoreDeque;
 use settings::Settings;
@@ -177,6 +178,27 @@ pub fn fresh(g: Settings, numbers: &mut [u64], scores: &[f64]) -> u32
     0
 }
 
+// What a step changed, back in its places: nothing where it was refused, and no score where it has none.
+fn put_stepped(numbers: &mut [u64], scores: &mut [f64], r: Stepped) -> StepAnswer
+    requires { ⌜ length (now numbers) ≡ numbersLong ⌝ }
+    requires { ⌜ length (now scores) ≡ scoresLong ⌝ }
+    ensures { λ a. ⌜ stepAnswer a ≡ outcome r .answer ⌝ }
+    ensures { λ _. ⌜ now (numbers .exit) ≡ numbersAfter (outcome r) (now (numbers .entry)) ⌝ }
+    ensures { λ _. ⌜ now (scores .exit) ≡ scoresAfter (outcome r) (now (scores .entry)) ⌝ }
+{
+    let answer = r.answer;
+    let t = r.state;
+    let StepAnswer::Decided(d) = answer else {
+        return answer;
+    };
+    put_call(numbers, t);
+    let Decision::Scored(_cut, _score) = d else {
+        return answer;
+    };
+    put_deque(scores, t.deque);
+    answer
+}
+
 // The step of a detector in its lent places. A refused call writes nothing, and a decision without a score no score.
 pub fn step(
     numbers: &mut [u64],
@@ -200,15 +222,5 @@ pub fn step(
     }
     let s = lent_state(numbers, scores);
     let r = detector::step(s, length, n, p, inter, importance, threshold);
-    let answer = r.answer;
-    let t = r.state;
-    let StepAnswer::Decided(d) = answer else {
-        return answer;
-    };
-    put_call(numbers, t);
-    let Decision::Scored(_cut, _score) = d else {
-        return answer;
-    };
-    put_deque(scores, t.deque);
-    answer
+    put_stepped(numbers, scores, r)
 }
