@@ -1,8 +1,9 @@
-pub mod Long
-pub mod Starts
+pub mod Items
 pub mod Calls
 pub mod Views
-pub mod Costs
+pub mod Begins
+pub mod Cases
 pub mod Reach
 pub mod Left
+pub mod Account
 pub mod Unique

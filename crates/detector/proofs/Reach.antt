@@ -2,37 +2,35 @@
 -- entries than the room, an offset below their number and inter costs that were allowed.
 -- Assumes nothing.
 use mathlib.Core.Path.{_≡_, refl, _∙_}
-use mathlib.Core.Bool.{Bool, true, false, not, _&&_, cond}
+use mathlib.Core.Bool.{Bool, true, false, _&&_, cond}
 use mathlib.Core.List.{List, [], _∷_}
 use mathlib.Core.Option.{Option, none, some}
 use Prim.Native.Nat.{ℕ, _+_, _-_, _≤_, _<_}
 use native.Mathlib.Omega.{arith}
-use borrow.Author.Tests.{lt-ltb, ltb-true, ltb-false, leb-false, eq-eqb, ne-eqb, eqb-true, eqb-false}
-use lib.Dec.{eqb, ltb, leb}
+use borrow.Author.Tests.{ltb-true, ltb-false}
+use lib.Dec.{ltb}
 use lib.ListN.{length, take, getD}
 use lib.Seq.{length-take-le, getD-take}
 use Rattle.answer.specs.Answer.{Answer, gives, refused}
-use Rattle.answer.specs.Refusal.{_orElse_}
 use Rattle.settings.specs.declared.Settings.{Settings}
 use Rattle.settings.specs.Settings.{room, normalLookahead, lookaheadOffset, isNone, isFast, isScaled, fastThreshold, settingsFault}
+use Rattle.settings.proofs.Laws.{lookahead-small}
 use Rattle.score.specs.declared.ScenecutResult.{ScenecutResult}
-use Rattle.score.specs.declared.Measure.{Measure}
 use Rattle.score.specs.Deque.{noScore}
-use Rattle.score.specs.Search.{anyOf}
-use Rattle.score.specs.Scores.{scoreOf}
-use Rattle.score.specs.Costs.{forbidden}
+use Rattle.score.specs.Costs.{forbiddenEntry}
+use Rattle.score.proofs.Counts.{any-none, none-taken}
+use Rattle.score.proofs.Scored.{Sound, score-long, score-sound}
 use Rattle.state.specs.State.{View, Call}
 use Rattle.state.specs.Refusals.{stateFault, stepFault}
-use Rattle.state.proofs.Tests.{or-right, and-right, and-both, positive}
-use Rattle.state.proofs.Fine.{Fine, fine, long}
-use Rattle.state.proofs.Passes.{Well, well, passes}
-use Rattle.detector.specs.Rules.{Turn, againOf, itemsOf, rule7, nextOf}
-use Rattle.detector.specs.Step.{Verdict, Outcome, itemOf, progressOf, acceptedOf, stepOf}
+use Rattle.state.proofs.Well.{Well, well, passes, state-same}
+use Rattle.state.proofs.Fine.{Fine, fine, settings-refused}
+use Rattle.detector.specs.Rules.{Turn, againOf, rule4, rule5, rule7, nextOf}
+use Rattle.detector.specs.Step.{Verdict, Outcome, itemOf, progressOf, bareOf, scoredOf, acceptedOf, stepOf}
 use Rattle.detector.specs.Fresh.{freshView}
 use Rattle.detector.specs.Runs.{next, thenStep, runOf}
-use Rattle.detector.proofs.Long.{score-long, items-long}
-use Rattle.detector.proofs.Starts.{lookahead-small, above, two}
-use Rattle.detector.proofs.Costs.{Sound, no-entry, score-sound, items-sound, again-sound, list-sound, take-sound}
+use Rattle.detector.proofs.Cases.{accepted-cases, step-cases}
+use Rattle.detector.proofs.Begins.{Begun, item-sound, begun}
+use Rattle.detector.proofs.Items.{again-sound}
 
 -- what rules 4 and 5 leave
 record Good (g : Settings) (t : Turn) : Type 0 where
@@ -42,110 +40,38 @@ record Good (g : Settings) (t : Turn) : Type 0 where
   spare : normalLookahead + lookaheadOffset g < length (t .entries) → t .offset + 1 < length (t .entries)
   sound : Sound (t .entries)
 
-module _ (s : View) (c : Call) (f : Fine s c) (mode : isNone (s .settings) ≡ false) (later : lookaheadOffset (s .settings) < c .setLength) where
-  abbrev g : Settings
-  g = s .settings
-
-  abbrev o : ℕ
-  o = s .offset
-
-  abbrev k : ℕ
-  k = c .setLength
-
-  small : lookaheadOffset g ≤ normalLookahead
-  small = lookahead-small g
-
-  item-sound : (i : ℕ) → i < k - 1 → forbidden false (itemOf s c i .inter) ≡ false
-  item-sound i h =
-      let b = f .read mode in
-      let n = long false (k - 1) (c .inter) b in
-      list-sound (c .inter) i (omega arith) (or-right (not (eqb (length (c .inter)) (k - 1))) (anyOf (forbidden false) (c .inter)) b)
-
-  never : k ≡ 1 → lookaheadOffset g ≡ 0 → o ≡ 0 → ⊥
-  never i j l = clash (f .goes i j l)
+module _ (s : View) (c : Call) (f : Fine s c) (later : lookaheadOffset (s .settings) < c .setLength) (mode : isNone (s .settings) ≡ false) where
+  -- rule 5
+  went : (t : Turn) → Begun (s .settings) (c .setLength) t → Good (s .settings) (rule5 (s .settings) (c .setLength) (c .number) (itemOf s c) t)
+  went t b = by (ltb (t .offset + 1) (c .setLength)) refl
     where
-      clash : isNone g ≡ true → ⊥
-      clash e = let z : _≡_ {A = ℕ} 0 1 = cc in omega arith
+      by : (x : Bool) → ltb (t .offset + 1) (c .setLength) ≡ x → Good (s .settings) (rule5 (s .settings) (c .setLength) (c .number) (itemOf s c) t)
+      by true p =
+          let g = s .settings in
+          let o = t .offset in
+          let l : o + 1 < c .setLength = ltb-true _ _ p in
+          let m = againOf (t .again && isScaled g) (itemOf s c o) in
+          let n = score-long (fastThreshold g) o (c .number + o) m (t .entries) (isFast g) in
+          rw p (record {
+            few = omega (arith, n, b .ready .few);
+            fewer = λ e. omega (arith, n, b .fewer e);
+            inside = omega (arith, n, b .ready .at);
+            spare = λ e. omega (arith, n, b .spare (omega (arith, n)));
+            sound = score-sound (fastThreshold g) o (c .number + o) m (t .entries) (isFast g) (again-sound (t .again && isScaled g) (itemOf s c o) (item-sound s c f later mode o (omega arith))) (b .sound);
+          })
+      by false p =
+          let i = b .ready .falls (ltb-false _ _ p) in
+          let h = b .ready .at in
+          rw p (record {
+            few = omega (arith, b .ready .few);
+            fewer = λ e. omega (arith, b .fewer e);
+            inside = omega arith;
+            spare = λ e. omega (arith, b .spare (omega arith));
+            sound = b .sound;
+          })
 
-  -- the items are scored, and then one more
-  started : (q p : ℕ) (again : Bool) → q ≤ k - 1 → p < k - 1 → Sound (s .entries)
-      → Sound (scoreOf (isFast g) (fastThreshold g) p (c .number + p) (againOf (again && isScaled g) (itemOf s c p)) (itemsOf (isFast g) (fastThreshold g) o (c .number) (itemOf s c) q (s .entries)))
-  started q p again h l e =
-      score-sound (isFast g) (fastThreshold g) p (c .number + p) (againOf (again && isScaled g) (itemOf s c p)) (itemsOf (isFast g) (fastThreshold g) o (c .number) (itemOf s c) q (s .entries))
-      (again-sound (again && isScaled g) (itemOf s c p) (item-sound p l))
-      (items-sound (isFast g) (fastThreshold g) o (c .number) (itemOf s c) q (s .entries) (λ i u. item-sound i (omega arith)) e)
-
-  started-long : (q p : ℕ) (m : Measure) → length (scoreOf (isFast g) (fastThreshold g) p (c .number + p) m (itemsOf (isFast g) (fastThreshold g) o (c .number) (itemOf s c) q (s .entries))) ≡ q + length (s .entries) + 1
-  started-long q p m =
-      score-long (isFast g) (fastThreshold g) p (c .number + p) m (itemsOf (isFast g) (fastThreshold g) o (c .number) (itemOf s c) q (s .entries))
-      ∙ omega (arith, items-long (isFast g) (fastThreshold g) o (c .number) (itemOf s c) q (s .entries))
-
-  -- rule 4's first half
-  good-first : length (s .entries) ≡ 0 → ltb 0 o && ltb (o + 1) k ≡ true → Good g (progressOf s c)
-  good-first z t =
-      let w = and-both (ltb 0 o) (ltb (o + 1) k) t in
-      let l : o + 1 < k = ltb-true (o + 1) k (w .1) in
-      let a : o ≡ lookaheadOffset g = f .shaped .empty z in
-      let n = started-long o o (againOf (false && isScaled g) (itemOf s c o)) in
-      rw (eq-eqb (length (s .entries)) 0 z, t, w .1) (record {
-        few = omega (arith, n, small);
-        fewer = λ e. omega (arith, n, small);
-        inside = omega (arith, n);
-        spare = λ e. omega (arith, n);
-        sound = started o o false (omega arith) (omega arith) (f .sound);
-      })
-
-  -- rule 4's second half
-  good-second : length (s .entries) ≡ 0 → ltb 0 o && ltb (o + 1) k ≡ false → Good g (progressOf s c)
-  good-second z t =
-      let a : o ≡ lookaheadOffset g = f .shaped .empty z in
-      let d : 2 ≤ k = two o k (lookaheadOffset g) never later a in
-      let u : ltb (k - 2 + 1) k ≡ true = lt-ltb (k - 2 + 1) k (omega arith) in
-      let n = started-long (k - 1) (k - 2) (againOf (true && isScaled g) (itemOf s c (k - 2))) in
-      rw (eq-eqb (length (s .entries)) 0 z, t, u) (record {
-        few = omega (arith, n, f .short);
-        fewer = λ e. omega (arith, n, ltb-false (o + 1) k (and-right (ltb 0 o) (ltb (o + 1) k) t (lt-ltb 0 o (omega arith))));
-        inside = omega (arith, n);
-        spare = λ e. omega (arith, n);
-        sound = started (k - 1) (k - 2) true (omega arith) (omega arith) (f .sound);
-      })
-
-  -- rule 5 alone
-  good-more : (length (s .entries) ≡ 0 → ⊥) → ltb (o + 1) k ≡ true → Good g (progressOf s c)
-  good-more z t =
-      let l : o + 1 < k = ltb-true (o + 1) k t in
-      let i : o < length (s .entries) = f .shaped .within (positive (length (s .entries)) z) in
-      let m = againOf (false && isScaled g) (itemOf s c o) in
-      let n = score-long (isFast g) (fastThreshold g) o (c .number + o) m (s .entries) in
-      rw (ne-eqb (length (s .entries)) 0 z, t) (record {
-        few = omega (arith, n, f .shaped .few);
-        fewer = λ e. omega (arith, n, f .shaped .fewer e);
-        inside = omega (arith, n);
-        spare = λ e. omega (arith, n);
-        sound = score-sound (isFast g) (fastThreshold g) o (c .number + o) m (s .entries) (again-sound (false && isScaled g) (itemOf s c o) (item-sound o (omega arith))) (f .sound);
-      })
-
-  good-falls : (length (s .entries) ≡ 0 → ⊥) → ltb (o + 1) k ≡ false → Good g (progressOf s c)
-  good-falls z t =
-      let l : k ≤ o + 1 = ltb-false (o + 1) k t in
-      let i : o < length (s .entries) = f .shaped .within (positive (length (s .entries)) z) in
-      let p : 0 < o = above o k (lookaheadOffset g) never later l in
-      rw (ne-eqb (length (s .entries)) 0 z, t) (record {
-        few = omega (arith, f .shaped .few);
-        fewer = λ e. omega (arith, f .shaped .fewer e);
-        inside = omega arith;
-        spare = λ e. omega arith;
-        sound = f .sound;
-      })
-
-  good : Good g (progressOf s c)
-  good = by (eqb (length (s .entries)) 0) (ltb 0 o && ltb (o + 1) k) (ltb (o + 1) k) refl refl refl
-    where
-      by : (x y z : Bool) → eqb (length (s .entries)) 0 ≡ x → ltb 0 o && ltb (o + 1) k ≡ y → ltb (o + 1) k ≡ z → Good g (progressOf s c)
-      by true true z p q r = good-first (eqb-true _ _ p) q
-      by true false z p q r = good-second (eqb-true _ _ p) q
-      by false y true p q r = good-more (eqb-false _ _ p) r
-      by false y false p q r = good-falls (eqb-false _ _ p) r
+  good : Good (s .settings) (progressOf s c)
+  good = went (rule4 (s .settings) (c .setLength) (c .number) (itemOf s c) (s .offset) (s .entries)) (begun s c f later mode)
 
 -- rule 7 leaves a state that passes 11
 module _ (s : View) (long n : ℕ) (t : Turn) (settled : settingsFault (s .settings) ≡ 0) (w : Good (s .settings) t) where
@@ -159,26 +85,22 @@ module _ (s : View) (long n : ℕ) (t : Turn) (settled : settingsFault (s .setti
       let k : length (take (length (t .entries) - 1) (t .entries)) ≡ length (t .entries) - 1 = length-take-le _ _ (omega arith) in
       let i = w .spare more in
       record {
-        shaped = record {
-          settled = settled;
-          few = omega (arith, w .few);
-          fewer = λ a. omega (arith, w .fewer a);
-          empty = λ z. absurd (omega arith);
-          within = λ p. omega arith;
-        };
-        sound = take-sound (length (t .entries) - 1) (t .entries) (w .sound);
+        settled = settled;
+        few = omega (arith, w .few);
+        fewer = λ a. omega (arith, w .fewer a);
+        within = λ p. omega arith;
+        empty = λ z. absurd (omega arith);
+        sound = none-taken forbiddenEntry (length (t .entries) - 1) (t .entries) (w .sound);
       }
   trimmed-well false e =
       let less : length (t .entries) ≤ normalLookahead + lookaheadOffset (s .settings) = ltb-false _ _ e in
       let a = lookahead-small (s .settings) in
       record {
-        shaped = record {
-          settled = settled;
-          few = omega arith;
-          fewer = λ q. omega arith;
-          empty = λ z. absurd (omega (arith, w .inside));
-          within = λ p. w .inside;
-        };
+        settled = settled;
+        few = omega arith;
+        fewer = λ q. omega arith;
+        within = λ p. w .inside;
+        empty = λ z. absurd (omega (arith, w .inside));
         sound = w .sound;
       }
 
@@ -188,23 +110,17 @@ module _ (s : View) (long n : ℕ) (t : Turn) (settled : settingsFault (s .setti
 
 -- the rules leave a state that passes 11
 module _ (s : View) (c : Call) (e : stateFault s ≡ 0) where
+  bare-passes : (cut : Bool) → stateFault (bareOf s (c .setLength) (c .number) cut .state) ≡ 0
+  bare-passes cut = state-same _ s refl refl refl ∙ e
+
+  pub scored-passes : stepFault s c ≡ 0 → lookaheadOffset (s .settings) < c .setLength → isNone (s .settings) ≡ false → stateFault (scoredOf s c (progressOf s c) .state) ≡ 0
+  scored-passes q l m = kept s (c .setLength) (c .number) (progressOf s c) (well s e .settled) (good s c (fine s c q) l m)
+
   pub accepted-passes : stepFault s c ≡ 0 → stateFault (acceptedOf s c .state) ≡ 0
-  unfolding acceptedOf stateFault
-  accepted-passes q = by (leb (c .setLength) (lookaheadOffset (s .settings))) (isNone (s .settings)) refl refl
-    where
-      by : (x y : Bool) → leb (c .setLength) (lookaheadOffset (s .settings)) ≡ x → isNone (s .settings) ≡ y → stateFault (acceptedOf s c .state) ≡ 0
-      by true y p r = rw p e
-      by false true p r = rw (p, r) e
-      by false false p r =
-          rw (p, r) (kept s (c .setLength) (c .number) (progressOf s c) (well s e .shaped .settled) (good s c (fine s c q) r (leb-false _ _ p)))
+  accepted-passes q = accepted-cases s c (λ o. stateFault (o .state) ≡ 0) bare-passes (scored-passes q)
 
   pub step-passes : stateFault (stepOf s c .state) ≡ 0
-  unfolding stepOf
-  step-passes = by (eqb (stepFault s c) 0) refl
-    where
-      by : (b : Bool) → eqb (stepFault s c) 0 ≡ b → stateFault (stepOf s c .state) ≡ 0
-      by true p = rw p (accepted-passes (eqb-true _ _ p))
-      by false p = rw p e
+  step-passes = step-cases s c (λ o. stateFault (o .state) ≡ 0) (λ h. e) (λ q. bare-passes) scored-passes
 
 -- ---- where the score is found
 
@@ -227,19 +143,17 @@ module _ (s : View) (c : Call) (e : ScenecutResult) where
   none-given h = absurd (let z : _≡_ {A = ℕ} 0 1 = cc in omega arith)
 
   pub score-stands : scoreIn (stepOf s c .answer) ≡ some e → getD (stepOf s c .state .entries) (stepOf s c .state .offset) noScore ≡ e
-  unfolding stepOf acceptedOf
-  score-stands h = by (eqb (stepFault s c) 0) (leb (c .setLength) (lookaheadOffset (s .settings))) (isNone (s .settings)) refl refl refl
+  score-stands = step-cases s c (λ o. scoreIn (o .answer) ≡ some e → getD (o .state .entries) (o .state .offset) noScore ≡ e) (λ f h. none-given h) (λ q cut h. none-given h) stands
     where
-      by : (x y z : Bool) → eqb (stepFault s c) 0 ≡ x → leb (c .setLength) (lookaheadOffset (s .settings)) ≡ y → isNone (s .settings) ≡ z → getD (stepOf s c .state .entries) (stepOf s c .state .offset) noScore ≡ e
-      by false y z p q r = none-given (rw p at h)
-      by true true z p q r = none-given (rw (p, q) at h)
-      by true false true p q r = none-given (rw (p, q, r) at h)
-      by true false false p q r =
-          let t = progressOf s c in
-          let k : _≡_ {A = Option ScenecutResult} (some (getD (t .entries) (t .offset) noScore)) (some e) = rw (p, q, r) at h in
+      t : Turn
+      t = progressOf s c
+
+      stands : stepFault s c ≡ 0 → lookaheadOffset (s .settings) < c .setLength → isNone (s .settings) ≡ false
+          → _≡_ {A = Option ScenecutResult} (some (getD (t .entries) (t .offset) noScore)) (some e)
+          → getD (rule7 (s .settings) (t .entries)) (t .offset) noScore ≡ e
+      stands q l m h =
           let same : getD (t .entries) (t .offset) noScore ≡ e = cc in
-          let w = good s c (fine s c (eqb-true _ _ p)) r (leb-false _ _ q) in
-          rw (p, q, r) (entry-kept (s .settings) t w (ltb (normalLookahead + lookaheadOffset (s .settings)) (length (t .entries))) refl ∙ same)
+          entry-kept (s .settings) t (good s c (fine s c q) l m) (ltb (normalLookahead + lookaheadOffset (s .settings)) (length (t .entries))) refl ∙ same
 
 then-passes : (before : Outcome) (c : Call) → stateFault (before .state) ≡ 0 → stateFault (thenStep before c .state) ≡ 0
 then-passes before c e = by (before .answer)
@@ -256,8 +170,12 @@ run-passes before (c ∷ cs) e = run-passes (thenStep before c) cs (then-passes 
 pub fresh-passes : (g : Settings) → settingsFault g ≡ 0 → stateFault (freshView g) ≡ 0
 fresh-passes g e =
     passes (freshView g) (record {
-      shaped = record { settled = e; few = omega arith; fewer = λ a. omega arith; empty = λ z. refl; within = λ p. absurd (omega arith) };
-      sound = no-entry;
+      settled = e;
+      few = omega arith;
+      fewer = λ a. omega arith;
+      within = λ p. absurd (omega arith);
+      empty = λ z. refl;
+      sound = any-none forbiddenEntry;
     })
 
 -- every state that calls reach from a fresh detector passes 11
@@ -267,5 +185,4 @@ reached-passes g a cs e = run-passes (record { answer = a; state = freshView g }
 
 -- and every step of a detector whose settings are refused is refused with 11
 pub unfit-refused : (g : Settings) (c : Call) → (settingsFault g ≡ 0 → ⊥) → stepFault (freshView g) c ≡ 11
-unfolding stepFault stateFault _orElse_
-unfit-refused g c h = rw (ne-eqb (settingsFault g) 0 h)
+unfit-refused g c = settings-refused (freshView g) c

@@ -1,20 +1,26 @@
--- The step is a function of the view, and the first and the release number are in the view for the reader alone.
+-- The step is a function of the view, the first and the release number are in the view for the reader alone, and a list that the mode
+-- does not read is not looked at.
 -- Assumes nothing.
 use mathlib.Core.Path.{_≡_, refl, sym, ap, _∙_}
 use mathlib.Core.Bool.{Bool, true, false, cond}
 use Prim.Native.Nat.{ℕ, _≤_, _<_}
 use native.Mathlib.Omega.{arith}
+use mathlib.Core.List.{List}
 use lib.Dec.{eqb, leb}
+use lib.Ieee.{Float}
 use lib.ListN.{length, getD}
 use lib.Seq.{ext-getD, getD-take, length-take-le}
-use Rattle.settings.specs.Settings.{lookaheadOffset, isNone}
+use Rattle.settings.specs.Settings.{lookaheadOffset, isNone, isFast}
 use Rattle.score.specs.declared.ScoreDeque.{ScoreDeque}
 use Rattle.score.specs.Deque.{noScore, content}
-use Rattle.state.specs.State.{View, Call, view}
-use Rattle.state.specs.Refusals.{stateFault, stepFault}
+use Rattle.state.specs.State.{View, Call, call, view}
+use Rattle.state.specs.Refusals.{stepFault}
+use Rattle.state.proofs.Fine.{step-same, unread}
 use Rattle.state.specs.declared.State.{State}
 use Rattle.detector.specs.declared.Stepped.{Stepped}
 use Rattle.detector.specs.Step.{Outcome, outcome, acceptedOf, stepOf}
+use Rattle.detector.specs.Runs.{renumbered, compared}
+use Rattle.detector.proofs.Cases.{step-accepted}
 
 -- ---- the step respects the view
 
@@ -34,25 +40,12 @@ step-respects-view s t c r q p u e = p ∙ ap (λ (v : View). stepOf v c) e ∙ 
 
 -- ---- the first and the release number bear on no decision, score or refusal
 
--- a view with other such numbers
-abbrev pub renumbered : View → ℕ → ℕ → View
-renumbered s a b = record {
-  settings = s .settings;
-  entries = s .entries;
-  offset = s .offset;
-  lastNumber = s .lastNumber;
-  lastLength = s .lastLength;
-  firstNumber = a;
-  release = b;
-}
-
 pub fault-blind : (s : View) (c : Call) (a b : ℕ) → stepFault (renumbered s a b) c ≡ stepFault s c
-unfolding stepFault stateFault
-fault-blind s c a b = refl
+fault-blind s c a b = step-same (renumbered s a b) s c refl refl refl refl refl
 
 -- the same answer, and the same state but for the two numbers
 abbrev pub Alike : Outcome → Outcome → Type 0
-Alike o u = (o .answer ≡ u .answer) × (renumbered (o .state) 0 0 ≡ renumbered (u .state) 0 0)
+Alike o u = (o .answer ≡ u .answer) × (compared (o .state) ≡ compared (u .state))
 
 either : (t : Bool) (o o′ u u′ : Outcome) → Alike o u → Alike o′ u′ → Alike (cond t o o′) (cond t u u′)
 either true o o′ u u′ p q = p
@@ -65,5 +58,48 @@ accepted-blind s c a b =
     (either (isNone (s .settings)) _ _ _ _ (refl, refl) (refl, refl))
 
 pub step-blind : (s : View) (c : Call) (a b : ℕ) → Alike (stepOf (renumbered s a b) c) (stepOf s c)
-unfolding stepOf stepFault stateFault
-step-blind s c a b = either (eqb (stepFault s c) 0) _ _ _ _ (accepted-blind s c a b) (refl, refl)
+unfolding stepOf
+step-blind s c a b = rw (fault-blind s c a b) (either (eqb (stepFault s c) 0) _ _ _ _ (accepted-blind s c a b) (refl, refl))
+
+-- so states that are the same but for them give the same
+pub alike : (s t : View) (c : Call) → compared s ≡ compared t → Alike (stepOf s c) (stepOf t c)
+alike s t c e =
+    let x = step-blind s c 0 0 in
+    let y = step-blind t c 0 0 in
+    let z = ap (λ (v : View). stepOf v c) e in
+    (sym (x .0) ∙ ap (λ (o : Outcome). o .answer) z ∙ y .0, sym (x .1) ∙ ap (λ (o : Outcome). compared (o .state)) z ∙ y .1)
+
+-- ---- nor does the count: it is in the view so that a refused state is seen whole
+
+module _ (s : View) (c : Call) (k : ℕ) where
+  abbrev recounted : View
+  recounted = record {
+    settings = s .settings;
+    entries = s .entries;
+    count = k;
+    offset = s .offset;
+    lastNumber = s .lastNumber;
+    lastLength = s .lastLength;
+    firstNumber = s .firstNumber;
+    release = s .release;
+  }
+
+  pub fault-uncounted : stepFault recounted c ≡ stepFault s c
+  fault-uncounted = step-same recounted s c refl refl refl refl refl
+
+  accepted-uncounted : acceptedOf recounted c ≡ acceptedOf s c
+  unfolding acceptedOf
+  accepted-uncounted = refl
+
+  -- an accepted call gives the same outcome whatever the count was
+  pub step-uncounted : stepFault s c ≡ 0 → stepOf recounted c ≡ stepOf s c
+  step-uncounted e = step-accepted recounted c (fault-uncounted ∙ e) ∙ accepted-uncounted ∙ sym (step-accepted s c e)
+
+-- ---- in Fast mode a list that is not read may be anything
+
+pub unread-blind : (s : View) (long n p : ℕ) (ds is ts is′ ts′ : List Float) → isFast (s .settings) ≡ true
+    → stepOf s (call long n p ds is ts) ≡ stepOf s (call long n p ds is′ ts′)
+unfolding stepOf acceptedOf
+unread-blind s long n p ds is ts is′ ts′ e =
+    let same : stepFault s (call long n p ds is ts) ≡ stepFault s (call long n p ds is′ ts′) = unread s _ _ (rw e) refl refl refl refl in
+    rw (same, e)

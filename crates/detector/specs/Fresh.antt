@@ -11,6 +11,7 @@ abbrev pub freshView : Settings → View
 freshView g = record {
   settings = g;
   entries = [];
+  count = 0;
   offset = lookaheadOffset g;
   lastNumber = 0;
   lastLength = 0;

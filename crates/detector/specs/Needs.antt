@@ -23,18 +23,14 @@ pub record Covers (fast : Bool) (k : ℕ) (ds is ts : List Float) : Type 0 where
   pub costs : k ≤ length ds
   pub rest : fast ≡ false → (k ≤ length is) × (k ≤ length ts)
 
--- a call and a deque that rule 4 can start from
+-- a call that rule 4 can start from: where the deque is empty, o lies among two frames or more
 pub record Startable (long n o count : ℕ) : Type 0 where
-  pub few : count < room
   pub short : long ≤ setLimit
   pub small : n < numberLimit
   pub empty : count ≡ 0 → (o < long) × (2 ≤ long)
-  pub within : 0 < count → o < count
-  pub falls : long ≤ o + 1 → 0 < o
 
 -- what rule 4 leaves: room for one entry more, and an offset within the entries
-pub record Ready (long : ℕ) (q : Progress) : Type 0 where
-  pub exact : q .deque .count ≡ length (content (q .deque))
-  pub few : q .deque .count < room
-  pub at : q .offset ≤ q .deque .count
-  pub falls : long ≤ q .offset + 1 → 0 < q .offset
+pub record Ready (long : ℕ) (t : Turn) : Type 0 where
+  pub few : length (t .entries) < room
+  pub at : t .offset ≤ length (t .entries)
+  pub falls : long ≤ t .offset + 1 → 0 < t .offset

@@ -111,11 +111,12 @@ abbrev pub releaseOf : View → ℕ → ℕ → ℕ
 releaseOf s long n =
     cond (releases (s .settings) long) (max (firstOf s n) (n - releaseReach)) (cond (eqb (s .lastNumber) 0) n (s .release))
 
--- the state after an accepted call, with the entries and the offset that it leaves
+-- the state after an accepted call, with the entries and the offset that it leaves; its count is theirs
 abbrev pub nextOf : View → ℕ → ℕ → List ScenecutResult → ℕ → View
 nextOf s long n l o = record {
   settings = s .settings;
   entries = l;
+  count = length l;
   offset = o;
   lastNumber = n;
   lastLength = long;

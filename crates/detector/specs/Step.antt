@@ -1,5 +1,6 @@
 -- Document 01, "The step", whole: "The step answers either a refusal or a decision with its score, if there is one."
-use mathlib.Core.Bool.{Bool, false, cond}
+use mathlib.Core.Path.{_≡_}
+use mathlib.Core.Bool.{Bool, true, false, cond}
 use mathlib.Core.Option.{Option, none, some}
 use Prim.Native.Nat.{ℕ, _-_}
 use lib.Dec.{eqb}
@@ -10,6 +11,7 @@ use Rattle.score.specs.declared.ScenecutResult.{ScenecutResult}
 use Rattle.score.specs.declared.Measure.{Measure}
 use Rattle.score.specs.Deque.{noScore}
 use Rattle.state.specs.State.{View, Call, view}
+use Rattle.state.specs.declared.State.{State}
 use Rattle.state.specs.Refusals.{stepFault}
 use Rattle.detector.specs.declared.Stepped.{Stepped}
 use Rattle.detector.specs.declared.StepAnswer.{StepAnswer}
@@ -39,6 +41,14 @@ stepAnswer (Decided d) = gives (verdict d)
 
 abbrev pub outcome : Stepped → Outcome
 outcome r = record { answer = stepAnswer (r .answer); state = view (r .state) }
+
+abbrev pub isRefused : Answer Verdict → Bool
+isRefused (refused f) = true
+isRefused (gives v) = false
+
+-- "A refusal returns its number only; state .. as before": the very state, with the slots past its count, which no view shows
+abbrev pub HandsBack : Stepped → State → Type 0
+HandsBack r s = isRefused (stepAnswer (r .answer)) ≡ true → r .state ≡ s
 
 -- ---- rules 2 to 7
 

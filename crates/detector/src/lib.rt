@@ -1,11 +1,12 @@
 // The detector: `SceneChangeDetector` of analyze.rs, with its `analyze_next_frame` as a step that takes a state and gives the next.
 ghost use mathlib.Core.Path.{_≡_};
 ghost use Prim.Native.Nat.{_-_, max};
+ghost use lib.ListN.{length};
 ghost use Rattle.score.specs.Deque.{content};
 ghost use Rattle.state.specs.State.{view, call};
 ghost use Rattle.state.specs.Refusals.{stepFault};
 ghost use Rattle.detector.specs.Rules.{releaseReach, releases, nextOf};
-ghost use Rattle.detector.specs.Step.{outcome, bareOf, acceptedOf, stepOf};
+ghost use Rattle.detector.specs.Step.{outcome, HandsBack, bareOf, acceptedOf, stepOf};
 ghost use Rattle.detector.specs.Fresh.{freshView, opened, openedOf};
 use score::ScenecutResult;
 use score::ScoreDeque;
@@ -95,8 +96,9 @@ fn moves_release(g: Settings, length: usize) -> bool
 }
 
 // The state after an accepted call, with the deque and the offset that it leaves.
-fn next_state(s: State, d: ScoreDeque, o: usize, n: u64, length: usize) -> State
-    ensures { λ r. ⌜ view r ≡ nextOf (view s) length n (content d) o ⌝ }
+fn next_state(s: State, d: ScoreDeque, o: usize, n: u64, long: usize) -> State
+    requires { ⌜ d .count ≡ length (content d) ⌝ }
+    ensures { λ r. ⌜ view r ≡ nextOf (view s) long n (content d) o ⌝ }
 {
     let g = s.settings;
     let mut first = s.first_number;
@@ -105,7 +107,7 @@ fn next_state(s: State, d: ScoreDeque, o: usize, n: u64, length: usize) -> State
         first = n;
         release = n;
     }
-    if moves_release(g, length) {
+    if moves_release(g, long) {
         let back = reach_back(n);
         release = larger(first, back);
     }
@@ -114,18 +116,19 @@ fn next_state(s: State, d: ScoreDeque, o: usize, n: u64, length: usize) -> State
         deque: d,
         offset: o,
         last_number: n,
-        last_length: length,
+        last_length: long,
         first_number: first,
         release_number: release,
     }
 }
 
 // A decision without a score: the deque and the offset stay.
-fn bare(s: State, length: usize, n: u64, cut: bool) -> Stepped
-    ensures { λ r. ⌜ outcome r ≡ bareOf (view s) length n cut ⌝ }
+fn bare(s: State, long: usize, n: u64, cut: bool) -> Stepped
+    requires { ⌜ s .deque .count ≡ length (content (s .deque)) ⌝ }
+    ensures { λ r. ⌜ outcome r ≡ bareOf (view s) long n cut ⌝ }
 {
     let d = s.deque;
-    let state = next_state(s, d, s.offset, n, length);
+    let state = next_state(s, d, s.offset, n, long);
     let answer = StepAnswer::Decided(Decision::Bare(cut));
     Stepped { answer, state }
 }
@@ -178,7 +181,7 @@ pub fn step(
     threshold: &[f64],
 ) -> Stepped
     ensures { λ r. ⌜ outcome r ≡ stepOf (view s) (call length n p (now (inter .entry)) (now (importance .entry)) (now (threshold .entry))) ⌝ }
-    ensures { λ r. ⌜ ((stepFault (view s) (call length n p (now (inter .entry)) (now (importance .entry)) (now (threshold .entry))) ≡ 0 → ⊥) → r .state ≡ s) ⌝ }
+    ensures { λ r. ⌜ HandsBack r s ⌝ }
 {
     let fault = state::step_fault(s, length, n, p, inter, importance, threshold);
     if fault != 0 {

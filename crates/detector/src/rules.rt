@@ -84,7 +84,6 @@ pub fn initialized(
     requires { ⌜ Startable length n o (d .count) ⌝ }
     requires { ⌜ Covers (isFast g) (length - 1) (now inter) (now importance) (now threshold) ⌝ }
     ensures { λ r. ⌜ turn r ≡ rule4 g length n (measureOf (isFast g) (now (inter .entry)) (now (importance .entry)) (now (threshold .entry))) o (content d) ⌝ }
-    ensures { λ r. ⌜ Ready length r ⌝ }
 {
     let count = d.count;
     if count != 0 {
@@ -135,7 +134,7 @@ pub fn advanced(
     threshold: &[f64],
     q: Progress,
 ) -> Progress
-    requires { ⌜ Ready length q × (n < numberLimit) ⌝ }
+    requires { ⌜ Ready length (turn q) × (n < numberLimit) ⌝ }
     requires { ⌜ Covers (isFast g) (length - 1) (now inter) (now importance) (now threshold) ⌝ }
     ensures { λ r. ⌜ turn r ≡ rule5 g length n (measureOf (isFast g) (now (inter .entry)) (now (importance .entry)) (now (threshold .entry))) (turn q) ⌝ }
 {
@@ -187,7 +186,7 @@ pub fn decided(g: Settings, distance: u64, d: ScoreDeque, o: usize) -> bool
     ensures { λ r. ⌜ r ≡ rule6 g distance (turnAt (content d) o) ⌝ }
 {
     let fast = g.mode == Settings::FAST;
-    let reach = g.importance_threshold();
-    let cut = decision::adaptive_scenecut(fast, reach, d, o);
+    let level = g.importance_threshold();
+    let cut = decision::adaptive_scenecut(fast, level, d, o);
     with_interval(g, distance, cut)
 }

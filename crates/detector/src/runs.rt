@@ -2,7 +2,7 @@
 ghost use mathlib.Core.Path.{_≡_};
 ghost use lib.ListN.{take, drop};
 ghost use Rattle.state.specs.State.{call};
-ghost use Rattle.detector.specs.Step.{outcome};
+ghost use Rattle.detector.specs.Step.{outcome, HandsBack};
 ghost use Rattle.detector.specs.Runs.{thenStep, callsOf, runOf};
 use super::StepAnswer;
 use super::Stepped;
@@ -18,6 +18,7 @@ pub fn then_step(
     threshold: &[f64],
 ) -> Stepped
     ensures { λ r. ⌜ outcome r ≡ thenStep (outcome before) (call length n p (now (inter .entry)) (now (importance .entry)) (now (threshold .entry))) ⌝ }
+    ensures { λ r. ⌜ HandsBack r (before .state) ⌝ }
 {
     let answer = before.answer;
     let state = before.state;
@@ -37,7 +38,8 @@ fn window(list: &[f64], from: usize, items: usize) -> &[f64]
 }
 
 // A run of calls over a film. Call j has the number, the length and the previous keyframe at place j, and item k of its lists stands
-// at place j + k of the film's. The answer is that of the last call, or the first refusal.
+// at place j + k of the film's. The answer is that of the last call, or the first refusal. A refused state is one that the run itself
+// made, so its view, with the count in it, is all that can be said of it.
 pub fn run(
     before: Stepped,
     numbers: &[u64],

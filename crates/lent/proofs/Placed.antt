@@ -11,7 +11,8 @@ use lib.Dec.{eqb}
 use lib.Ieee.{Float}
 use lib.ListN.{length, take, drop, getD, List·getD-append}
 use lib.Seq.{getD-append-add, getD-take, length-take-le}
-use Rattle.answer.specs.Answer.{gives, lentAfter}
+use Rattle.answer.specs.Answer.{gives}
+use Rattle.answer.proofs.Laws.{lent-written}
 use Rattle.settings.specs.declared.Settings.{Settings}
 use Rattle.settings.specs.Settings.{room}
 use Rattle.score.specs.declared.ScenecutResult.{ScenecutResult}
@@ -20,9 +21,10 @@ use Rattle.state.specs.State.{View, Call}
 use Rattle.state.proofs.Tests.{and-both}
 use Rattle.detector.specs.Fresh.{freshView}
 use Rattle.detector.specs.Step.{Verdict, Outcome, stepOf}
+use Rattle.detector.proofs.Cases.{decided-accepted, leaves}
 use Rattle.detector.proofs.Reach.{scoreIn, score-stands}
 use Rattle.detector.proofs.Left.{settings-kept, entries-kept, entries-few}
-use Rattle.lent.specs.Places.{numbersLong, settingsLong, scoreLong, scoresLong, isState, settingsOf, scoresOf, entriesOf, stateOf, callNumbers, placed}
+use Rattle.lent.specs.Places.{numbersLong, settingsLong, scoreLong, scoresLong, isState, settingsOf, scoresOf, entriesOf, stateOf, settingNumbers, callNumbers, placed}
 use Rattle.lent.specs.Lent.{freshFault, freshNumbers, lentStep, numbersAfter, scoresAfter}
 use Rattle.lent.proofs.Scores.{take-least}
 
@@ -76,7 +78,8 @@ module _ (ns : List ℕ) (xs : List Float) (c : Call) (size : length ns ≡ numb
       let entries = entries-back v e in
       let settings : settingsOf (written ns after size) ≡ after .settings = same-settings ns after size ∙ sym (settings-kept before c) in
       let numbers : numbersAfter (stepOf before c) ns ≡ written ns after size = rw e in
-      rw (numbers, called ns after size 5, entries, called ns after size 0, called ns after size 1, called ns after size 2, called ns after size 3, called ns after size 4, settings)
+      let counted = leaves before c (decided-accepted before c v e) .counted in
+      rw (numbers, called ns after size 5, entries, called ns after size 0, called ns after size 1, called ns after size 2, called ns after size 3, called ns after size 4, settings, ← counted)
 
 -- ---- the theorems
 
@@ -104,5 +107,4 @@ module _ (ns : List ℕ) (xs : List Float) (c : Call) (is : isState ns xs ≡ tr
 
 -- the numbers of a fresh detector hold a fresh state
 pub fresh-carried : (ns : List ℕ) (xs : List Float) (g : Settings) → freshFault ns xs g ≡ 0 → stateOf (freshNumbers ns xs g) xs ≡ freshView g
-unfolding lentAfter
-fresh-carried ns xs g e = rw e
+fresh-carried ns xs g e = ap (λ (l : List ℕ). stateOf l xs) (sym (lent-written (freshFault ns xs g) (settingNumbers g ++ callNumbers (freshView g)) ns (sym e)))

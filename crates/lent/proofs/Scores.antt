@@ -2,17 +2,17 @@
 use mathlib.Core.Path.{_≡_, refl, sym, ap, _∙_}
 use mathlib.Core.List.{List, [], _∷_, _++_, append-nil}
 use Prim.Native.Nat.{ℕ, zero, suc, _+_, _-_, _*_, _≤_, _<_, min}
-use native.Mathlib.Nat.{zero-min, suc-min-suc}
 use native.Mathlib.Numerals.{add-one}
 use native.Mathlib.Omega.{arith}
 use borrow.Rule.Slice.PartMut.{putMid}
 use lib.Ieee.{Float}
 use lib.ListN.{length, take, drop, getD, set, length-drop, drop-of-length-le}
-use lib.Seq.{take-nil, take-suc, take-suc-set, drop-drop}
+use lib.Seq.{take-suc, take-suc-set, drop-drop}
 use Rattle.settings.specs.Settings.{room}
 use Rattle.score.specs.declared.ScenecutResult.{ScenecutResult}
 use Rattle.score.specs.declared.ScoreDeque.{ScoreDeque}
 use Rattle.score.specs.Deque.{noScore, content}
+use Rattle.score.proofs.Window.{take-within}
 use Rattle.lent.specs.Places.{scoreLong, frontScore, scoresOf, entriesOf, doubles, placed}
 
 -- ---- reading
@@ -39,17 +39,10 @@ read-more out xs i n h e =
     (take-suc-set out i (frontScore (drop (i * scoreLong) xs)) (omega arith)
     ∙ rw (e, ← score-at room i xs h) (sym (take-suc (scoresOf room xs) i noScore l)))
 
-take-min : (c : ℕ) (l : List ScenecutResult) → take (min c (length l)) l ≡ take c l
-take-min zero l = rw zero-min
-take-min (suc c) [] = take-nil (min (suc c) 0)
-take-min (suc c) (e ∷ l) = rw suc-min-suc (ap (λ (r : List ScenecutResult). e ∷ r) (take-min c l))
-
 -- as many as there is room for are all
 pub read-all : (c : ℕ) (out : List ScenecutResult) (xs : List Float) → length out ≡ room → take (min c room) out ≡ take (min c room) (scoresOf room xs)
     → take c out ≡ entriesOf c xs
-read-all c out xs n e =
-    let m : take (min c (length out)) out ≡ take (min c (length (scoresOf room xs))) (scoresOf room xs) = rw (n, scores-long room xs) e in
-    sym (take-min c out) ∙ m ∙ take-min c (scoresOf room xs)
+read-all c out xs n e = sym (take-within c room out n) ∙ e ∙ take-within c room (scoresOf room xs) (scores-long room xs)
 
 -- ---- writing
 

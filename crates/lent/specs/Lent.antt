@@ -21,7 +21,7 @@ use Rattle.lent.specs.Places.{settingsLong, isState, stateOf, settingNum
 abbrev pub freshFault : List ℕ → List Float → Settings → ℕ
 freshFault ns xs g = refusal 11 (not (isState ns xs)) orElse settingsFault g
 
--- the thirteen numbers of a fresh state, which has no entry
+-- the numbers of a fresh state, which has no entry
 abbrev pub freshNumbers : List ℕ → List Float → Settings → List ℕ
 freshNumbers ns xs g = lentAfter (freshFault ns xs g) (settingNumbers g ++ callNumbers (freshView g)) ns
 
@@ -30,7 +30,7 @@ freshNumbers ns xs g = lentAfter (freshFault ns xs g) (settingNumbers g ++ callN
 abbrev pub lentStep : List ℕ → List Float → Call → Outcome
 lentStep ns xs c = cond (isState ns xs) (stepOf (stateOf ns xs) c) (record { answer = refused 11; state = stateOf ns xs })
 
--- "A refused call writes nothing"; an accepted one the six numbers that a call may change
+-- "A refused call writes nothing"; an accepted one the numbers that a call may change
 abbrev numbersBy : Answer Verdict → View → List ℕ → List ℕ
 numbersBy (refused f) s ns = ns
 numbersBy (gives v) s ns = take settingsLong ns ++ callNumbers s

@@ -1,7 +1,7 @@
--- The state as a recorder lends it: 13 numbers, and five doubles for each of the deque's 16 scores.
+-- The state as a recorder lends it: numbers, and doubles for each score that the deque has room for.
 use mathlib.Core.List.{List, [], _∷_, _++_}
 use mathlib.Core.Bool.{Bool, _&&_}
-use Prim.Native.Nat.{ℕ, zero, suc, _*_}
+use Prim.Native.Nat.{ℕ, zero, suc, _+_, _*_}
 use lib.Dec.{eqb}
 use lib.Ieee.{Float, nan}
 use lib.ListN.{length, take, drop, getD}
@@ -13,13 +13,18 @@ use Rattle.state.specs.State.{View}
 
 -- ---- the sizes
 
-abbrev pub numbersLong : ℕ
-numbersLong = 13
-
--- of these the first are the settings, which no call changes
+-- the settings come first, and no call changes them
 abbrev pub settingsLong : ℕ
 settingsLong = 7
 
+-- then what a call may change
+abbrev pub callLong : ℕ
+callLong = 6
+
+abbrev pub numbersLong : ℕ
+numbersLong = settingsLong + callLong
+
+-- a score's five doubles
 abbrev pub scoreLong : ℕ
 scoreLong = 5
 
@@ -63,6 +68,7 @@ abbrev pub stateOf : List ℕ → List Float → View
 stateOf ns xs = record {
   settings = settingsOf ns;
   entries = entriesOf (getD ns 12 0) xs;
+  count = getD ns 12 0;
   offset = getD ns 7 0;
   lastNumber = getD ns 8 0;
   lastLength = getD ns 9 0;

@@ -1,26 +1,42 @@
-// The detector over lent places: its state in 13 numbers and five doubles for each of its 16 scores, as a recorder keeps it.
+// The detector over lent places: its state in numbers, and doubles for each score that it has room for, as a recorder keeps it.
 ghost use mathlib.Core.Path.{_≡_};
 ghost use mathlib.Core.List.{_++_};
 ghost use Prim.Native.Nat.{_≤_};
 ghost use lib.ListN.{length, take, drop};
 ghost use Rattle.score.specs.Deque.{content};
 ghost use Rattle.state.specs.State.{view, call};
-ghost use Rattle.detector.specs.Step.{stepAnswer};
+ghost use Rattle.detector.specs.Step.{stepAnswer, outcome};
 ghost use Rattle.lent.specs.Places.{numbersLong, settingsLong, scoreLong, scoresLong, settingsOf, frontScore, entriesOf, stateOf, settingNumbers, callNumbers, doubles, placed};
 ghost use Rattle.lent.specs.Lent.{freshFault, freshNumbers, lentStep, numbersAfter, scoresAfter};
 use detector::Decision;
 use detector::StepAnswer;
+use detector::Stepped;
 use score::ScenecutResult;
 use score::ScoreDeque;
 use settings::Settings;
 use state::State;
 
+// The settings stand first among the numbers, and behind them what a call may change, each in its place.
+const SETTINGS: usize = 7;
+
+const OFFSET: usize = SETTINGS;
+
+const LAST_NUMBER: usize = SETTINGS + 1;
+
+const LAST_LENGTH: usize = SETTINGS + 2;
+
+const FIRST_NUMBER: usize = SETTINGS + 3;
+
+const RELEASE_NUMBER: usize = SETTINGS + 4;
+
+const COUNT: usize = SETTINGS + 5;
+
 // How many numbers a state has, how many doubles a score, and how many doubles all scores.
-const NUMBERS: usize = 13;
+const NUMBERS: usize = COUNT + 1;
 
 const DOUBLES: usize = 5;
 
-const SCORES: usize = 80;
+const SCORES: usize = Settings::ROOM * DOUBLES;
 
 // The score that the first five doubles of a part are.
 fn front_score(s: &[f64]) -> ScenecutResult
@@ -34,6 +50,7 @@ fn front_score(s: &[f64]) -> ScenecutResult
 fn lent_deque(scores: &[f64], count: usize) -> ScoreDeque
     requires { ⌜ length (now scores) ≡ scoresLong ⌝ }
     ensures { λ r. ⌜ content r ≡ entriesOf count (now (scores .entry)) ⌝ }
+    ensures { λ r. ⌜ r .count ≡ count ⌝ }
 {
     let none = ScenecutResult::new(0.0, 0.0, 0.0, 0.0, 0.0);
     let entries = [none; Settings::ROOM];
@@ -68,20 +85,20 @@ fn lent_state(numbers: &[u64], scores: &[f64]) -> State
     ensures { λ r. ⌜ view r ≡ stateOf (now (numbers .entry)) (now (scores .entry)) ⌝ }
 {
     let g = lent_settings(numbers);
-    let d = lent_deque(scores, numbers[12] as usize);
+    let d = lent_deque(scores, numbers[COUNT] as usize);
     State {
         settings: g,
         deque: d,
-        offset: numbers[7] as usize,
-        last_number: numbers[8],
-        last_length: numbers[9] as usize,
-        first_number: numbers[10],
-        release_number: numbers[11],
+        offset: numbers[OFFSET] as usize,
+        last_number: numbers[LAST_NUMBER],
+        last_length: numbers[LAST_LENGTH] as usize,
+        first_number: numbers[FIRST_NUMBER],
+        release_number: numbers[RELEASE_NUMBER],
     }
 }
 
 // How many entries a deque holds.
-fn held(d: ScoreDeque) -> usize
+fn entry_count(d: ScoreDeque) -> usize
     ensures { λ r. ⌜ r ≡ length (content d) ⌝ }
 {
     sums::lesser(d.count, Settings::ROOM)
@@ -104,7 +121,7 @@ fn put_deque(scores: &mut [f64], d: ScoreDeque)
     requires { ⌜ length (now scores) ≡ scoresLong ⌝ }
     ensures { λ _. ⌜ now (scores .exit) ≡ placed (content d) (now (scores .entry)) ⌝ }
 {
-    let n = held(d);
+    let n = entry_count(d);
     for i in 0..n {
         let at = i * DOUBLES;
         let e = d.entries[i];
@@ -130,13 +147,13 @@ fn put_call(numbers: &mut [u64], s: State)
     requires { ⌜ length (now numbers) ≡ numbersLong ⌝ }
     ensures { λ _. ⌜ now (numbers .exit) ≡ take settingsLong (now (numbers .entry)) ++ callNumbers (view s) ⌝ }
 {
-    let n = held(s.deque);
-    numbers[7] = s.offset as u64;
-    numbers[8] = s.last_number;
-    numbers[9] = s.last_length as u64;
-    numbers[10] = s.first_number;
-    numbers[11] = s.release_number;
-    numbers[12] = n as u64;
+    let n = entry_count(s.deque);
+    numbers[OFFSET] = s.offset as u64;
+    numbers[LAST_NUMBER] = s.last_number;
+    numbers[LAST_LENGTH] = s.last_length as u64;
+    numbers[FIRST_NUMBER] = s.first_number;
+    numbers[RELEASE_NUMBER] = s.release_number;
+    numbers[COUNT] = n as u64;
 }
 
 // A fresh detector in its lent places: 0, or the number of the refusal, and then nothing is written. It has no entry, so no
@@ -162,6 +179,27 @@ pub fn fresh(g: Settings, numbers: &mut [u64], scores: &[f64]) -> u32
     0
 }
 
+// What a step changed, back in its places: nothing where it was refused, and no score where it has none.
+fn put_stepped(numbers: &mut [u64], scores: &mut [f64], r: Stepped) -> StepAnswer
+    requires { ⌜ length (now numbers) ≡ numbersLong ⌝ }
+    requires { ⌜ length (now scores) ≡ scoresLong ⌝ }
+    ensures { λ a. ⌜ stepAnswer a ≡ outcome r .answer ⌝ }
+    ensures { λ _. ⌜ now (numbers .exit) ≡ numbersAfter (outcome r) (now (numbers .entry)) ⌝ }
+    ensures { λ _. ⌜ now (scores .exit) ≡ scoresAfter (outcome r) (now (scores .entry)) ⌝ }
+{
+    let answer = r.answer;
+    let t = r.state;
+    let StepAnswer::Decided(d) = answer else {
+        return answer;
+    };
+    put_call(numbers, t);
+    let Decision::Scored(_cut, _score) = d else {
+        return answer;
+    };
+    put_deque(scores, t.deque);
+    answer
+}
+
 // The step of a detector in its lent places. A refused call writes nothing, and a decision without a score no score.
 pub fn step(
     numbers: &mut [u64],
@@ -185,15 +223,5 @@ pub fn step(
     }
     let s = lent_state(numbers, scores);
     let r = detector::step(s, length, n, p, inter, importance, threshold);
-    let answer = r.answer;
-    let t = r.state;
-    let StepAnswer::Decided(d) = answer else {
-        return answer;
-    };
-    put_call(numbers, t);
-    let Decision::Scored(_cut, _score) = d else {
-        return answer;
-    };
-    put_deque(scores, t.deque);
-    answer
+    put_stepped(numbers, scores, r)
 }

@@ -14,9 +14,10 @@ use borrow.Author.Tests.{ltb-true, ltb-false}
 use Rattle.score.specs.declared.ScenecutResult.{ScenecutResult}
 use Rattle.score.specs.declared.Measure.{Measure}
 use Rattle.score.specs.Deque.{trimmedTo}
-use Rattle.score.specs.Scores.{zeroF, backwardOf, forwardOf, withForward, updatedFrom, updatedOf, scoreOf}
+use Rattle.score.specs.Scores.{zeroF, forwardOf, withForward, updatedFrom, updatedOf, scoreOf}
+use Rattle.score.proofs.Walk.{backward-walk}
 use Rattle.score.proofs.Update.{update-take}
-use Rattle.meeting.specs.History.{reach, Item, cost, history, forwardFrom, entryOf, entriesOf}
+use Rattle.meeting.proofs.History.{span, Item, cost, history, forwardFrom, entryOf, closedEntriesOf}
 
 abbrev inter : ScenecutResult → Float
 inter e = e .«inter_cost»
@@ -42,68 +43,66 @@ forward-snoc own b forward [] new = refl
 forward-snoc own b forward (x ∷ xs) new = rw none-false at (forward-snoc own false (forwardOf b x own forward) xs new)
 
 -- how many of the newest pairs the first n entries depend on: five more than n; in Fast mode n
-abbrev pub needs : Bool → ℕ → ℕ
-needs fast n = cond fast n (n + reach)
+abbrev pub pairsNeeded : Bool → ℕ → ℕ
+pairsNeeded fast n = cond fast n (n + span)
 
 module _ (level : Float) where
   -- from five later pairs on, a further one changes nothing
-  settled : (later : List Float) (new : Float) (h : List Item) → reach ≤ length later
-      → entriesOf false level later h ≡ entriesOf false level (later ++ (new ∷ [])) h
+  settled : (later : List Float) (new : Float) (h : List Item) → span ≤ length later
+      → closedEntriesOf false level later h ≡ closedEntriesOf false level (later ++ (new ∷ [])) h
   settled later new [] k = refl
   settled later new (i ∷ h) k =
-      rw (take-append-le reach later (new ∷ []) k)
+      rw (take-append-le span later (new ∷ []) k)
       (ap (λ (r : List ScenecutResult). entryOf false level later i h ∷ r) (settled (cost i ∷ later) new h (omega arith)))
 
-  update-entries : (j : ℕ) (later : List Float) (new : Float) (h : List Item) → j + length later ≡ reach
-      → updatedFrom (none true later) j new (entriesOf false level later h) ≡ entriesOf false level (later ++ (new ∷ [])) h
+  update-entries : (j : ℕ) (later : List Float) (new : Float) (h : List Item) → j + length later ≡ span
+      → updatedFrom (none true later) j new (closedEntriesOf false level later h) ≡ closedEntriesOf false level (later ++ (new ∷ [])) h
   update-entries zero later new h k = settled later new h (omega arith)
   update-entries (suc j) later new [] k = refl
   update-entries (suc j) later new (i ∷ h) k =
       let more = later ++ (new ∷ []) in
-      let short : length later ≤ reach = omega arith in
-      let long : length more ≤ reach = omega (arith, length-append later (new ∷ [])) in
+      let short : length later ≤ span = omega arith in
+      let long : length more ≤ span = omega (arith, length-append later (new ∷ [])) in
       let head : withForward (none true later) new (entryOf false level later i h) ≡ entryOf false level more i h
-      = rw (take-all reach later short, take-all reach more long, ← forward-snoc (cost i) true zeroF later new) in
+      = rw (take-all span later short, take-all span more long, ← forward-snoc (cost i) true zeroF later new) in
       rw head (ap (λ (r : List ScenecutResult). entryOf false level more i h ∷ r) (update-entries j (cost i ∷ later) new h (omega arith)))
 
   -- ---- scoring one pair more
 
-  costs : (fast : Bool) (later : List Float) (h : List Item) → map inter (entriesOf fast level later h) ≡ map cost h
+  costs : (fast : Bool) (later : List Float) (h : List Item) → map inter (closedEntriesOf fast level later h) ≡ map cost h
   costs fast later [] = refl
   costs true later (i ∷ h) = ap (λ (r : List Float). cost i ∷ r) (costs true (cost i ∷ later) h)
   costs false later (i ∷ h) = ap (λ (r : List Float). cost i ∷ r) (costs false (cost i ∷ later) h)
 
-  fast-later : (xs ys : List Float) (h : List Item) → entriesOf true level xs h ≡ entriesOf true level ys h
+  fast-later : (xs ys : List Float) (h : List Item) → closedEntriesOf true level xs h ≡ closedEntriesOf true level ys h
   fast-later xs ys [] = refl
   fast-later xs ys (i ∷ h) = ap (λ (r : List ScenecutResult). entryOf true level [] i h ∷ r) (fast-later (cost i ∷ xs) (cost i ∷ ys) h)
 
   pub score-entries : (fast : Bool) (i : Item) (h : List Item)
-      → scoreOf fast level reach (i .pair) (i .measure) (entriesOf fast level [] h) ≡ entriesOf fast level [] (i ∷ h)
-  unfolding backwardOf
+      → scoreOf fast level span (i .pair) (i .measure) (closedEntriesOf fast level [] h) ≡ closedEntriesOf fast level [] (i ∷ h)
   score-entries true i h = ap (λ (r : List ScenecutResult). entryOf true level [] i h ∷ r) (fast-later [] (cost i ∷ []) h)
-  score-entries false i h = rw (costs false [] h, update-entries reach [] (cost i) h refl)
+  score-entries false i h = rw (backward-walk span (cost i) (closedEntriesOf false level [] h), costs false [] h, update-entries span [] (cost i) h refl)
 
   -- scoring reads the first five entries alone, so what stands behind them may be cut off
-  pub score-take : (fast : Bool) (pair : ℕ) (m : Measure) (c : ℕ) (l : List ScenecutResult) → reach ≤ c
-      → scoreOf fast level reach pair m (take c l) ≡ take (suc c) (scoreOf fast level reach pair m l)
-  unfolding backwardOf
+  pub score-take : (fast : Bool) (pair : ℕ) (m : Measure) (c : ℕ) (l : List ScenecutResult) → span ≤ c
+      → scoreOf fast level span pair m (take c l) ≡ take (suc c) (scoreOf fast level span pair m l)
   score-take true pair m c l k = refl
   score-take false pair m c l k =
-      let read : take reach (map inter (take c l)) ≡ take reach (map inter l) = rw (← take-map inter c l) (take-take reach c (map inter l) k) in
-      let n : min reach c ≡ reach = omega arith in
-      let behind : updatedOf reach (m .inter) (take c l) ≡ take c (updatedOf reach (m .inter) l)
-      = rw n at (sym (update-take (m .inter) true reach c l)) in
-      rw (read, behind)
+      let read : take span (map inter (take c l)) ≡ take span (map inter l) = rw (← take-map inter c l) (take-take span c (map inter l) k) in
+      let n : min span c ≡ span = omega arith in
+      let behind : updatedOf span (m .inter) (take c l) ≡ take c (updatedOf span (m .inter) l)
+      = rw n at (sym (update-take (m .inter) true span c l)) in
+      rw (backward-walk span (m .inter) (take c l), backward-walk span (m .inter) l, read, behind)
 
   -- an entry for each pair
-  pub entries-long : (fast : Bool) (later : List Float) (h : List Item) → length (entriesOf fast level later h) ≡ length h
+  pub entries-long : (fast : Bool) (later : List Float) (h : List Item) → length (closedEntriesOf fast level later h) ≡ length h
   entries-long fast later [] = refl
   entries-long fast later (i ∷ h) = ap suc (entries-long fast (cost i ∷ later) h)
 
   -- ---- the first n entries depend on those pairs alone
 
-  pub local : (fast : Bool) (n m : ℕ) (later : List Float) (h : List Item) → needs fast n ≤ m
-      → take n (entriesOf fast level later (take m h)) ≡ take n (entriesOf fast level later h)
+  pub local : (fast : Bool) (n m : ℕ) (later : List Float) (h : List Item) → pairsNeeded fast n ≤ m
+      → take n (closedEntriesOf fast level later (take m h)) ≡ take n (closedEntriesOf fast level later h)
   local fast zero m later h k = refl
   local true (suc n) zero later h k = absurd (omega arith)
   local false (suc n) zero later h k = absurd (omega arith)
@@ -111,7 +110,7 @@ module _ (level : Float) where
   local true (suc n) (suc m) later (i ∷ h) k =
       ap (λ (r : List ScenecutResult). entryOf true level later i h ∷ r) (local true n m (cost i ∷ later) h (omega arith))
   local false (suc n) (suc m) later (i ∷ h) k =
-      let e : take reach (map cost (take m h)) ≡ take reach (map cost h) = rw (← take-map cost m h) (take-take reach m (map cost h) (omega arith)) in
+      let e : take span (map cost (take m h)) ≡ take span (map cost h) = rw (← take-map cost m h) (take-take span m (map cost h) (omega arith)) in
       rw e (ap (λ (r : List ScenecutResult). entryOf false level later i h ∷ r) (local false n m (cost i ∷ later) h (omega arith)))
 
 -- rule 7 on a list of one entry too many at the most

@@ -1,3 +1,6 @@
+pub mod FilmLaws
+pub mod Lists
+pub mod History
 pub mod Closed
 pub mod Settle
 pub mod Takes

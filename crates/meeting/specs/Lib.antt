@@ -1,3 +1,2 @@
 pub mod Films
 pub mod Meeting
-pub mod History

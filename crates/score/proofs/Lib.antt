@@ -4,5 +4,6 @@ pub mod Shift
 pub mod Counts
 pub mod Walk
 pub mod Update
+pub mod Scored
 pub mod Floats
 pub mod Unique

@@ -1,4 +1,4 @@
--- A deque has room for 16 entries, which is what owning one tells; so as many entries as it holds are its count, within the room.
+-- A deque has as many slots as there is room, which is what owning one tells; so as many entries as it holds are its count, within the room.
 -- Assumes nothing.
 use mathlib.Core.Path.{_≡_, sym, _∙_, ap}
 use mathlib.Core.List.{List}

@@ -3,7 +3,6 @@ use mathlib.Core.Bool.{Bool, true, false, not, _&&_, _||_}
 use lib.Ieee.{Float, le, lt}
 use Rattle.score.specs.declared.ScenecutResult.{ScenecutResult}
 use Rattle.score.specs.Scores.{zeroF, maxF}
-use Rattle.score.specs.Cut.{reached}
 
 -- "inter cost NaN, infinite or below 0; importance or threshold infinite or below 0 (NaN allowed)"
 abbrev pub forbidden : Bool → Float → Bool
@@ -13,8 +12,3 @@ forbidden true x = lt x zeroF || lt maxF x
 -- 11: "an entry whose inter cost 10 forbids"
 abbrev pub forbiddenEntry : ScenecutResult → Bool
 forbiddenEntry e = forbidden false (e .«inter_cost»)
-
--- the two tests that the deque is searched with
-abbrev pub asked : Bool → Float → ScenecutResult → Bool
-asked true t e = reached t e
-asked false t e = forbiddenEntry e

@@ -3,3 +3,4 @@ pub mod Deque
 pub mod Scores
 pub mod Cut
 pub mod Costs
+pub mod Needs

@@ -14,9 +14,9 @@ use Rattle.settings.specs.declared.Settings.{Settings}
 abbrev pub room : ℕ
 room = 16
 
--- the most frames of a set: refusal 8's "L above 16"
+-- the most frames of a set: refusal 8's "L above 16". A first set of so many leaves as many scores, since one item is scored twice
 abbrev pub setLimit : ℕ
-setLimit = 16
+setLimit = room
 
 -- the 5 of rule 1, and of rule 7's "5 + A"
 abbrev pub normalLookahead : ℕ

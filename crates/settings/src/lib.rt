@@ -26,8 +26,8 @@ impl Settings {
     // How many scores the deque has room for.
     pub const ROOM: usize = 16;
 
-    // The most frames of a set.
-    pub const SET_LIMIT: usize = 16;
+    // The most frames of a set: a first set of so many leaves as many scores, since one item is scored twice.
+    pub const SET_LIMIT: usize = Settings::ROOM;
 
     // The lookahead offset where the lookahead distance is at least as large, and how many earlier scores are kept.
     pub const NORMAL_LOOKAHEAD: usize = 5;

@@ -1,111 +1,151 @@
--- What a call has that no refusal forbids: each test of the refusals fails, and says so of its numbers.
--- Assumes nothing.
-use mathlib.Core.Path.{_≡_, ap}
+-- What a call that no refusal forbids tells a proof: one record with a field for each part of the refusals, unpacked here alone, and
+-- back. Assumes nothing.
+use mathlib.Core.Path.{_≡_, sym, ap}
 use mathlib.Core.Bool.{Bool, true, false, not, _&&_, _||_}
 use mathlib.Core.List.{List}
-use Prim.Native.Nat.{ℕ, _+_, _-_, _≤_, _<_}
+use Prim.Native.Nat.{ℕ, _-_, _≤_, _<_}
 use native.Mathlib.Omega.{arith}
-use lib.Dec.{eqb, ltb, leb}
+use lib.Dec.{eqb}
 use lib.ListN.{length}
 use lib.Ieee.{Float}
-use borrow.Author.Tests.{ltb-false, leb-false, eqb-false, eq-eqb, ne-eqb, not-false}
-use Rattle.answer.proofs.Laws.{or-none, passed}
+use borrow.Author.Tests.{ltb-false, leb-false, le-ltb, lt-leb, eqb-true, eqb-false, eq-eqb, ne-eqb, not-true, not-false}
+use Rattle.answer.proofs.Laws.{or-none, or-given, or-later, passed}
 use Rattle.settings.specs.declared.Settings.{Settings}
-use Rattle.settings.specs.Settings.{room, setLimit, normalLookahead, lookaheadOffset, isNone, isFast, settingsFault}
-use Rattle.score.specs.Search.{anyOf}
-use Rattle.score.specs.Costs.{forbidden, forbiddenEntry}
+use Rattle.settings.specs.Settings.{setLimit, lookaheadOffset, isNone, settingsFault}
+use Rattle.score.proofs.Counts.{or-no}
 use Rattle.state.specs.State.{View, Call}
-use Rattle.state.specs.Refusals.{badShape, badList, stateFault, numberLimit, numberFault, lengthFault, stopFault, listsFault, stepFault}
-use Rattle.state.proofs.Tests.{or-left, or-right, and-right, not-eqb}
+use Rattle.state.specs.Refusals.{noNumber, numberLimit, numberTooLarge, keyframeAhead, outOfTurn, setTooLong, setGrows, stops, readsInter, readsAll, wrongLength, holdsForbidden, badList, stateFault, numberFault, lengthFault, stopFault, listsFault, stepFault}
+use Rattle.state.proofs.Tests.{and-right, not-both, not-eqb}
+use Rattle.state.proofs.Well.{Well, well, passes, state-same, settings-unfit}
 
-pub record Shape (g : Settings) (count o : ℕ) : Type 0 where
-  pub settled : settingsFault g ≡ 0
-  pub few : count < room
-  pub fewer : lookaheadOffset g ≡ normalLookahead → count ≤ normalLookahead + normalLookahead
-  pub empty : count ≡ 0 → o ≡ lookaheadOffset g
-  pub within : 0 < count → o < count
-
-pub shape : (g : Settings) (count o : ℕ) → badShape g count o ≡ false → Shape g count o
-shape g count o e =
-    let a = lookaheadOffset g in
-    let s = not (eqb (settingsFault g) 0) in
-    let m1 = ltb (room - 1) count in
-    let m2 = eqb a normalLookahead && ltb (normalLookahead + normalLookahead) count in
-    let p1 = eqb count 0 && not (eqb o a) in
-    let p2 = not (eqb count 0) && leb count o in
-    let rest = or-right s ((m1 || m2) || (p1 || p2)) e in
-    let many = or-left (m1 || m2) (p1 || p2) rest in
-    let place = or-right (m1 || m2) (p1 || p2) rest in
-    record {
-      settled = not-eqb (settingsFault g) 0 (or-left s ((m1 || m2) || (p1 || p2)) e);
-      few = omega (arith, ltb-false (room - 1) count (or-left m1 m2 many));
-      fewer = λ h. ltb-false (normalLookahead + normalLookahead) count (and-right (eqb a normalLookahead) (ltb (normalLookahead + normalLookahead) count) (or-right m1 m2 many) (eq-eqb _ _ h));
-      empty = λ h. not-eqb o a (and-right (eqb count 0) (not (eqb o a)) (or-left p1 p2 place) (eq-eqb _ _ h));
-      within = λ h. leb-false count o (and-right (not (eqb count 0)) (leb count o) (or-right p1 p2 place) (ap not (ne-eqb count 0 (λ z. omega arith))));
-    }
+-- a list that is read
+pub record Read (nanAllowed : Bool) (items : ℕ) (l : List Float) : Type 0 where
+  pub long : length l ≡ items
+  pub allowed : holdsForbidden nanAllowed l ≡ false
 
 pub record Fine (s : View) (c : Call) : Type 0 where
-  pub shaped : Shape (s .settings) (length (s .entries)) (s .offset)
-  pub sound : anyOf forbiddenEntry (s .entries) ≡ false
+  pub state : Well s
   pub begun : c .number ≡ 0 → ⊥
   pub small : c .number < numberLimit
   pub behind : c .keyframe ≤ c .number
+  pub inTurn : (s .lastNumber ≡ 0 → ⊥) → c .number - 1 ≡ s .lastNumber
   pub short : c .setLength ≤ setLimit
+  pub shrinks : (s .lastNumber ≡ 0 → ⊥) → c .setLength ≤ s .lastLength
   pub goes : c .setLength ≡ 1 → lookaheadOffset (s .settings) ≡ 0 → s .offset ≡ 0 → isNone (s .settings) ≡ true
-  pub read : isNone (s .settings) ≡ false → badList false (c .setLength - 1) (c .inter) ≡ false
-  pub reads : isNone (s .settings) ≡ false → isFast (s .settings) ≡ false
-      → (badList true (c .setLength - 1) (c .importance) ≡ false) × (badList true (c .setLength - 1) (c .threshold) ≡ false)
+  pub inter : readsInter (s .settings) ≡ true → Read false (c .setLength - 1) (c .inter)
+  pub importance : readsAll (s .settings) ≡ true → Read true (c .setLength - 1) (c .importance)
+  pub threshold : readsAll (s .settings) ≡ true → Read true (c .setLength - 1) (c .threshold)
 
--- the length of a list that is read
-pub long : (nanAllowed : Bool) (items : ℕ) (l : List Float) → badList nanAllowed items l ≡ false → length l ≡ items
-long nanAllowed items l h = not-eqb (length l) items (or-left (not (eqb (length l) items)) (anyOf (forbidden nanAllowed) l) h)
+-- a test that is asked only where there was a last call
+abbrev hasLast : ℕ → Bool
+hasLast last = not (eqb last 0)
 
--- refusal 9 that is not given
-going : (g : Settings) (o k : ℕ) → eqb k 1 && (eqb (lookaheadOffset g) 0 && (eqb o 0 && not (isNone g))) ≡ false
-    → k ≡ 1 → lookaheadOffset g ≡ 0 → o ≡ 0 → isNone g ≡ true
-going g o k e h i j =
-    not-false (isNone g)
-    (and-right (eqb o 0) (not (isNone g))
-    (and-right (eqb (lookaheadOffset g) 0) (eqb o 0 && not (isNone g))
-    (and-right (eqb k 1) (eqb (lookaheadOffset g) 0 && (eqb o 0 && not (isNone g))) e (eq-eqb _ _ h)) (eq-eqb _ _ i)) (eq-eqb _ _ j))
+was : (last : ℕ) → (last ≡ 0 → ⊥) → hasLast last ≡ true
+was last h = ap not (ne-eqb last 0 h)
+
+was-no : (last : ℕ) → hasLast last ≡ true → last ≡ 0 → ⊥
+was-no last t = eqb-false last 0 (not-true (eqb last 0) t)
+
+-- a list
+list-read : (nanAllowed : Bool) (items : ℕ) (l : List Float) → badList nanAllowed items l ≡ false → Read nanAllowed items l
+list-read nanAllowed items l e =
+    let p = or-no (wrongLength items l) (holdsForbidden nanAllowed l) e in
+    record { long = not-eqb (length l) items (p .0); allowed = p .1 }
+
+list-good : (nanAllowed : Bool) (items : ℕ) (l : List Float) → Read nanAllowed items l → badList nanAllowed items l ≡ false
+list-good nanAllowed items l r =
+    let long : wrongLength items l ≡ false = ap not (eq-eqb (length l) items (r .long)) in
+    rw (long, r .allowed)
+
+-- refusal 9
+module _ (g : Settings) (o k : ℕ) where
+  going : stops g o k ≡ false → k ≡ 1 → lookaheadOffset g ≡ 0 → o ≡ 0 → isNone g ≡ true
+  going e h i j =
+      let e1 = and-right (eqb k 1) _ e (eq-eqb _ _ h) in
+      let e2 = and-right (eqb (lookaheadOffset g) 0) _ e1 (eq-eqb _ _ i) in
+      not-false (isNone g) (and-right (eqb o 0) (not (isNone g)) e2 (eq-eqb _ _ j))
+
+  on : (k ≡ 1 → lookaheadOffset g ≡ 0 → o ≡ 0 → isNone g ≡ true) → stops g o k ≡ false
+  on f =
+      not-both (eqb k 1) _ (λ t.
+      not-both (eqb (lookaheadOffset g) 0) _ (λ u.
+      not-both (eqb o 0) (not (isNone g)) (λ v. ap not (f (eqb-true _ _ t) (eqb-true _ _ u) (eqb-true _ _ v)))))
 
 pub fine : (s : View) (c : Call) → stepFault s c ≡ 0 → Fine s c
-unfolding stateFault numberFault lengthFault stopFault listsFault stepFault
+unfolding numberFault lengthFault stopFault listsFault stepFault
 fine s c e =
     let g = s .settings in
+    let o = s .offset in
+    let last = s .lastNumber in
     let n = c .number in
     let p = c .keyframe in
-    let last = s .lastNumber in
-    let k = c .setLength - 1 in
-    let f11 = stateFault s in
-    let f7 = numberFault last n p in
-    let f8 = lengthFault last (s .lastLength) (c .setLength) in
-    let f9 = stopFault g (s .offset) (c .setLength) in
-    let f10 = listsFault g k (c .inter) (c .importance) (c .threshold) in
-    let r1 = or-none f11 _ e in
-    let r2 = or-none f7 _ (r1 .1) in
-    let r3 = or-none f8 _ (r2 .1) in
-    let r4 = or-none f9 f10 (r3 .1) in
-    let t11 = passed 10 (badShape g (length (s .entries)) (s .offset) || anyOf forbiddenEntry (s .entries)) (r1 .0) in
-    let after = not (eqb last 0) && not (eqb (n - 1) last) in
-    let t7 = passed 6 (eqb n 0 || (leb numberLimit n || (ltb n p || after))) (r2 .0) in
-    let t7b = or-right (eqb n 0) (leb numberLimit n || (ltb n p || after)) t7 in
-    let t8 = passed 7 (ltb setLimit (c .setLength) || (not (eqb last 0) && ltb (s .lastLength) (c .setLength))) (r3 .0) in
-    let t9 = passed 8 (eqb (c .setLength) 1 && (eqb (lookaheadOffset g) 0 && (eqb (s .offset) 0 && not (isNone g)))) (r4 .0) in
-    let more = badList true k (c .importance) || badList true k (c .threshold) in
-    let any = badList false k (c .inter) || (not (isFast g) && more) in
-    let t10 = passed 9 (not (isNone g) && any) (r4 .1) in
-    let any-no : isNone g ≡ false → any ≡ false = λ h. and-right (not (isNone g)) any t10 (ap not h) in
-    let more-no : isNone g ≡ false → isFast g ≡ false → more ≡ false
-    = λ h f. and-right (not (isFast g)) more (or-right (badList false k (c .inter)) (not (isFast g) && more) (any-no h)) (ap not f) in
+    let long = c .setLength in
+    let k = long - 1 in
+    let r1 = or-none (stateFault s) _ e in
+    let r2 = or-none (numberFault last n p) _ (r1 .1) in
+    let r3 = or-none (lengthFault last (s .lastLength) long) _ (r2 .1) in
+    let r4 = or-none (stopFault g o long) (listsFault g k (c .inter) (c .importance) (c .threshold)) (r3 .1) in
+    let n1 = or-no (noNumber n) _ (passed 6 _ (r2 .0)) in
+    let n2 = or-no (numberTooLarge n) _ (n1 .1) in
+    let n3 = or-no (keyframeAhead n p) (outOfTurn last n) (n2 .1) in
+    let l1 = or-no (setTooLong long) (setGrows last (s .lastLength) long) (passed 7 _ (r3 .0)) in
+    let rest = badList true k (c .importance) || badList true k (c .threshold) in
+    let d1 = or-no (readsInter g && badList false k (c .inter)) (readsAll g && rest) (passed 9 _ (r4 .1)) in
+    let d2 : readsAll g ≡ true → (badList true k (c .importance) ≡ false) × (badList true k (c .threshold) ≡ false)
+    = λ h. or-no (badList true k (c .importance)) _ (and-right (readsAll g) rest (d1 .1) h) in
     record {
-      shaped = shape g (length (s .entries)) (s .offset) (or-left (badShape g (length (s .entries)) (s .offset)) (anyOf forbiddenEntry (s .entries)) t11);
-      sound = or-right (badShape g (length (s .entries)) (s .offset)) (anyOf forbiddenEntry (s .entries)) t11;
-      begun = eqb-false n 0 (or-left (eqb n 0) (leb numberLimit n || (ltb n p || after)) t7);
-      small = leb-false numberLimit n (or-left (leb numberLimit n) (ltb n p || after) t7b);
-      behind = ltb-false n p (or-left (ltb n p) after (or-right (leb numberLimit n) (ltb n p || after) t7b));
-      short = ltb-false setLimit (c .setLength) (or-left (ltb setLimit (c .setLength)) (not (eqb last 0) && ltb (s .lastLength) (c .setLength)) t8);
-      goes = going g (s .offset) (c .setLength) t9;
-      read = λ h. or-left (badList false k (c .inter)) (not (isFast g) && more) (any-no h);
-      reads = λ h f. (or-left (badList true k (c .importance)) (badList true k (c .threshold)) (more-no h f), or-right (badList true k (c .importance)) (badList true k (c .threshold)) (more-no h f));
+      state = well s (r1 .0);
+      begun = eqb-false n 0 (n1 .0);
+      small = leb-false numberLimit n (n2 .0);
+      behind = ltb-false n p (n3 .0);
+      inTurn = λ h. not-eqb (n - 1) last (and-right (hasLast last) _ (n3 .1) (was last h));
+      short = ltb-false setLimit long (l1 .0);
+      shrinks = λ h. ltb-false (s .lastLength) long (and-right (hasLast last) _ (l1 .1) (was last h));
+      goes = going g o long (passed 8 _ (r4 .0));
+      inter = λ h. list-read false k (c .inter) (and-right (readsInter g) _ (d1 .0) h);
+      importance = λ h. list-read true k (c .importance) (d2 h .0);
+      threshold = λ h. list-read true k (c .threshold) (d2 h .1);
     }
+
+pub accepts : (s : View) (c : Call) → Fine s c → stepFault s c ≡ 0
+unfolding numberFault lengthFault stopFault listsFault stepFault
+accepts s c f =
+    let g = s .settings in
+    let o = s .offset in
+    let last = s .lastNumber in
+    let n = c .number in
+    let p = c .keyframe in
+    let long = c .setLength in
+    let k = long - 1 in
+    let begun : noNumber n ≡ false = ne-eqb n 0 (f .begun) in
+    let small : numberTooLarge n ≡ false = lt-leb numberLimit n (f .small) in
+    let behind : keyframeAhead n p ≡ false = le-ltb n p (f .behind) in
+    let inTurn : outOfTurn last n ≡ false = not-both (hasLast last) _ (λ t. ap not (eq-eqb (n - 1) last (f .inTurn (was-no last t)))) in
+    let short : setTooLong long ≡ false = le-ltb setLimit long (f .short) in
+    let shrinks : setGrows last (s .lastLength) long ≡ false = not-both (hasLast last) _ (λ t. le-ltb (s .lastLength) long (f .shrinks (was-no last t))) in
+    let goes : stops g o long ≡ false = on g o long (f .goes) in
+    let inter : readsInter g && badList false k (c .inter) ≡ false = not-both (readsInter g) _ (λ h. list-good false k (c .inter) (f .inter h)) in
+    let rest : readsAll g && (badList true k (c .importance) || badList true k (c .threshold)) ≡ false
+    = not-both (readsAll g) _ (λ h. rw (list-good true k (c .importance) (f .importance h), list-good true k (c .threshold) (f .threshold h))) in
+    sym (or-later 0 (stateFault s) _ (sym (passes s (f .state)))
+    (or-later 0 (numberFault last n p) _ (rw (begun, small, behind, inTurn))
+    (or-later 0 (lengthFault last (s .lastLength) long) _ (rw (short, shrinks))
+    (or-later 0 (stopFault g o long) _ (rw goes) (rw (inter, rest))))))
+
+-- the refusal of a call looks at neither the first nor the release number
+pub step-same : (s t : View) (c : Call) → s .settings ≡ t .settings → s .entries ≡ t .entries → s .offset ≡ t .offset → s .lastNumber ≡ t .lastNumber → s .lastLength ≡ t .lastLength
+    → stepFault s c ≡ stepFault t c
+unfolding stepFault
+step-same s t c p q r n l = rw (state-same s t p q r, p, r, n, l)
+
+-- settings that are refused are refused in every state
+pub settings-refused : (s : View) (c : Call) → (settingsFault (s .settings) ≡ 0 → ⊥) → stepFault s c ≡ 11
+unfolding stepFault
+settings-refused s c h = sym (or-given 11 (stateFault s) _ (sym (settings-unfit s h)) (λ z. omega arith))
+
+-- the list of a mode that does not read it may be anything
+pub unread : (s : View) (c d : Call) → readsAll (s .settings) ≡ false
+    → c .setLength ≡ d .setLength → c .number ≡ d .number → c .keyframe ≡ d .keyframe → c .inter ≡ d .inter
+    → stepFault s c ≡ stepFault s d
+unfolding stepFault listsFault
+unread s c d e k n p i = rw (e, k, n, p, i)

@@ -1,5 +1,5 @@
 pub mod Tests
 pub mod Room
+pub mod Well
 pub mod Fine
-pub mod Passes
 pub mod Unique

@@ -1,4 +1,4 @@
--- A state's deque has room for 16 entries, and a count above them is refused as their number is.
+-- A state's deque has as many entries as there is room, and a count above them is refused as their number is.
 -- Assumes nothing.
 use mathlib.Core.Path.{_≡_, refl}
 use mathlib.Core.Bool.{Bool, true, false}
@@ -14,14 +14,14 @@ use Rattle.settings.specs.declared.Settings.{Settings}
 use Rattle.settings.specs.Settings.{room}
 use Rattle.score.proofs.Room.{roomy}
 use Rattle.state.specs.declared.State.{State}
-use Rattle.state.specs.Refusals.{badShape}
+use Rattle.state.specs.Refusals.{unfit}
 use Rattle.state.proofs.State as state
 
 pub state-room : (s : State) (vs : List Val) → Is state.the-row s vs → length (s .deque .entries) ≡ room
 state-room s vs g = roomy (s .deque) _ (g .1 .1 .1 .0)
 
 module _ (g : Settings) (count o : ℕ) where
-  by-case : (b : Bool) → ltb room count ≡ b → badShape g (min count room) o ≡ badShape g count o
+  by-case : (b : Bool) → ltb room count ≡ b → unfit g (min count room) o ≡ unfit g count o
   by-case true e =
       let h : room < count = ltb-true room count e in
       let n : min count room ≡ room = omega arith in
@@ -31,5 +31,5 @@ module _ (g : Settings) (count o : ℕ) where
       let n : min count room ≡ count = omega arith in
       rw n
 
-  pub shape-min : badShape g (min count room) o ≡ badShape g count o
-  shape-min = by-case (ltb room count) refl
+  pub unfit-min : unfit g (min count room) o ≡ unfit g count o
+  unfit-min = by-case (ltb room count) refl

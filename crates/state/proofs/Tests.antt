@@ -1,4 +1,4 @@
--- What a test that fails, or holds, says of its parts.
+-- What a test that fails, or holds, says of its parts, and back.
 -- Assumes nothing.
 use mathlib.Core.Path.{_≡_, refl}
 use mathlib.Core.Bool.{Bool, true, false, not, _&&_, _||_}
@@ -6,19 +6,23 @@ use Prim.Native.Nat.{ℕ, _<_}
 use native.Mathlib.Omega.{arith}
 use lib.Dec.{eqb}
 use borrow.Author.Tests.{eqb-true, not-false}
+use Rattle.score.proofs.Counts.{or-no}
 
+-- a disjunction that fails
 pub or-left : (a b : Bool) → a || b ≡ false → a ≡ false
-or-left true b e = e
-or-left false b e = refl
+or-left a b e = or-no a b e .0
 
 pub or-right : (a b : Bool) → a || b ≡ false → b ≡ false
-or-right true b e = let z : _≡_ {A = ℕ} 0 1 = cc in absurd (omega arith)
-or-right false b e = e
+or-right a b e = or-no a b e .1
 
 -- a conjunction that fails where its first part holds
 pub and-right : (a b : Bool) → a && b ≡ false → a ≡ true → b ≡ false
 and-right true b e h = e
 and-right false b e h = let z : _≡_ {A = ℕ} 0 1 = cc in absurd (omega arith)
+
+pub not-both : (a b : Bool) → (a ≡ true → b ≡ false) → a && b ≡ false
+not-both true b f = f refl
+not-both false b f = refl
 
 -- a conjunction that holds
 pub and-both : (a b : Bool) → a && b ≡ true → (a ≡ true) × (b ≡ true)

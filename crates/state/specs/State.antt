@@ -7,11 +7,13 @@ use Rattle.score.specs.declared.ScenecutResult.{ScenecutResult}
 use Rattle.score.specs.Deque.{content}
 use Rattle.state.specs.declared.State.{State}
 
--- the settings, the entries with the front first, the offset o, and the last accepted call's number and length, the first one's
--- number and the release number
+-- the settings, the entries with the front first, the deque's own count, the offset o, and the last accepted call's number and length,
+-- the first one's number and the release number. No rule and no refusal reads the count, since all go by the entries. It is here so
+-- that two counts past the array, which have the same entries, are told apart: a refused call gives back the one that it was given
 pub record View : Type 0 where
   pub settings : Settings
   pub entries : List ScenecutResult
+  pub count : ℕ
   pub offset : ℕ
   pub lastNumber : ℕ
   pub lastLength : ℕ
@@ -23,6 +25,7 @@ abbrev pub view : State → View
 view s = record {
   settings = s .settings;
   entries = content (s .deque);
+  count = s .deque .count;
   offset = s .offset;
   lastNumber = s .«last_number»;
   lastLength = s .«last_length»;

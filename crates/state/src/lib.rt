@@ -4,7 +4,7 @@ ghost use Prim.Native.Nat.{_-_};
 ghost use Rattle.score.specs.Search.{anyOf};
 ghost use Rattle.score.specs.Costs.{forbidden};
 ghost use Rattle.state.specs.State.{view, call};
-ghost use Rattle.state.specs.Refusals.{badShape, stateFault, numberFault, lengthFault, stopFault, badList, listsFault, stepFault};
+ghost use Rattle.state.specs.Refusals.{unfit, stateFault, numberFault, lengthFault, stopFault, badList, listsFault, stepFault};
 use score::ScoreDeque;
 use score::decision;
 use settings::Settings;
@@ -24,16 +24,18 @@ pub struct State {
 const NUMBER_LIMIT: u64 = 0x1_0000_0000;
 
 // Whether settings, count and offset are what no state has. The count is looked at before any slot is read.
-fn bad_shape(g: Settings, count: usize, o: usize) -> bool
-    ensures { λ r. ⌜ r ≡ badShape g count o ⌝ }
+fn is_unfit(g: Settings, count: usize, o: usize) -> bool
+    ensures { λ r. ⌜ r ≡ unfit g count o ⌝ }
 {
     let fault = g.fault();
     let a = g.lookahead_offset();
     let most = Settings::ROOM - 1;
-    let few = Settings::NORMAL_LOOKAHEAD + Settings::NORMAL_LOOKAHEAD;
-    let many = (most < count) | ((a == Settings::NORMAL_LOOKAHEAD) & (few < count));
-    let misplaced = ((count == 0) & (o != a)) | ((count != 0) & (count <= o));
-    (fault != 0) | (many | misplaced)
+    let window = Settings::NORMAL_LOOKAHEAD + Settings::NORMAL_LOOKAHEAD;
+    let over_room = most < count;
+    let over_window = (a == Settings::NORMAL_LOOKAHEAD) & (window < count);
+    let past = (count != 0) & (count <= o);
+    let astray = (count == 0) & (o != a);
+    (fault != 0) | (over_room | (over_window | (past | astray)))
 }
 
 // Refusal 11 of a state, or 0.
@@ -42,7 +44,7 @@ fn state_fault(s: State) -> u32
 {
     let d = s.deque;
     let g = s.settings;
-    if bad_shape(g, d.count, s.offset) {
+    if is_unfit(g, d.count, s.offset) {
         return 11;
     }
     if decision::any_forbidden_entry(d) {

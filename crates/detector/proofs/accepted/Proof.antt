@@ -1,26 +1,28 @@
 -- `accepted` meets its contract: each rule's function gives its rule, and what they ask follows from no refusal being given.
 -- Assumes nothing.
 use mathlib.Core.Path.{_≡_, sym, _∙_, ap}
-use mathlib.Core.Bool.{Bool, true, false}
+use mathlib.Core.Bool.{Bool, true, false, not}
 use mathlib.Core.List.{List}
 use mathlib.Core.Option.{some}
 use Prim.Native.Nat.{ℕ, _+_, _-_, _<_}
-use borrow.Author.Tests.{le-leb, lt-leb, eq-eqb, ne-eqb, eqb-true}
+use borrow.Author.Tests.{le-leb, lt-leb, eq-eqb, ne-eqb}
 use denote.Ref.{now}
-use lib.Dec.{leb}
 use lib.ListN.{length, getD}
 use Rattle.answer.specs.Answer.{gives}
 use Rattle.score.specs.declared.ScenecutResult.{ScenecutResult}
 use Rattle.settings.specs.Settings.{room, normalLookahead, lookaheadOffset, isNone, isFast}
+use Rattle.settings.proofs.Laws.{lookahead-small}
 use Rattle.score.specs.Deque.{content, noScore, trimmedTo}
-use Rattle.score.proofs.Room.{long-min, entries-of}
+use Rattle.score.proofs.Room.{long-min, entries-of, exact-of}
 use Rattle.state.specs.State.{View, Call, view, call}
+use Rattle.state.specs.Refusals.{readsAll}
 use Rattle.state.proofs.Room.{state-room}
-use Rattle.state.proofs.Fine.{Shape, Fine, fine, long}
-use Rattle.detector.specs.Step.{Outcome, itemOf, progressOf, bareOf, scoredOf, acceptedOf}
-use Rattle.detector.specs.Rules.{Turn, rule3, rule5, rule6, rule7, nextOf}
+use Rattle.state.proofs.Fine.{Fine, fine}
+use Rattle.detector.specs.Step.{Outcome, itemOf, progressOf, bareOf, scoredOf}
+use Rattle.detector.specs.Rules.{Turn, rule5, rule6, rule7, nextOf}
 use Rattle.detector.specs.Needs.{Covers, turn}
-use Rattle.detector.proofs.Starts.{lookahead-small, above, two}
+use Rattle.detector.proofs.Cases.{stays, silent, goes-on}
+use Rattle.detector.proofs.Begins.{empty, begun}
 use native.Mathlib.Omega.{arith}
 use borrow.Author.Needs.{needs}
 use Rattle.detector.proofs.accepted.Statement.{statement}
@@ -35,21 +37,6 @@ scored-is : (s : View) (c : Call) (t : Turn) (cut : Bool) (score : ScenecutResul
     → _≡_ {A = Outcome} (record { answer = gives (record { cut = cut; score = some score }); state = state }) (scoredOf s c t)
 scored-is s c t cut score kept state p q r e = rw (e, r, q, p)
 
--- rule 2, rule 3, and where neither applies
-stays : (s : View) (c : Call) → leb (c .setLength) (lookaheadOffset (s .settings)) ≡ true → acceptedOf s c ≡ bareOf s (c .setLength) (c .number) false
-unfolding acceptedOf
-stays s c k = rw k
-
-silent : (s : View) (c : Call) → leb (c .setLength) (lookaheadOffset (s .settings)) ≡ false → isNone (s .settings) ≡ true
-    → acceptedOf s c ≡ bareOf s (c .setLength) (c .number) (rule3 (s .settings) (c .number - c .keyframe))
-unfolding acceptedOf
-silent s c k m = rw (k, m)
-
-goes-on : (s : View) (c : Call) → leb (c .setLength) (lookaheadOffset (s .settings)) ≡ false → isNone (s .settings) ≡ false
-    → acceptedOf s c ≡ scoredOf s c (progressOf s c)
-unfolding acceptedOf
-goes-on s c k n = rw (k, n)
-
 abbrev begin : tie.After-lookahead-offset → tie.Start
 begin c = c .before .before .before .before .before .before
 
@@ -63,13 +50,11 @@ at : (c : tie.Start) → Fine (view (c .args .s)) (given c)
 at c = fine (view (c .args .s)) (given c) (c .pre)
 
 -- what is held is the count
-shaped : (c : tie.Start) → Shape (c .args .s .settings) (c .args .s .deque .count) (c .args .s .offset)
-shaped c =
+counted : (c : tie.Start) → length (content (c .args .s .deque)) ≡ c .args .s .deque .count
+counted c =
     let d = c .args .s .deque in
     let r : length (d .entries) ≡ room = state-room (c .args .s) _ (c .good .0) in
-    let f = at c .shaped in
-    let n : length (content d) ≡ d .count = omega (arith, long-min d r, f .few) in
-    rw n at f
+    omega (arith, long-min d r, at c .state .few)
 
 later : (c : tie.Else1) → lookaheadOffset (start c .args .s .settings) < start c .args .length
 later c = rw (c .before .lookahead-offset .ensures) at (c .if1 .left)
@@ -82,19 +67,17 @@ covered c =
     let f = at s in
     let k = s .args .length - 1 in
     let some-mode : isNone (s .args .s .settings) ≡ false = ne-eqb _ _ (c .if2 .left) in
+    let all : isFast (s .args .s .settings) ≡ false → readsAll (s .args .s .settings) ≡ true = λ e. rw (some-mode, e) in
     record {
-      costs = omega (arith, long false k (now (s .args .inter)) (f .read some-mode));
-      rest = λ e. (
-        omega (arith, long true k (now (s .args .importance)) (f .reads some-mode e .0)),
-        omega (arith, long true k (now (s .args .threshold)) (f .reads some-mode e .1)),
-      );
+      costs = omega (arith, f .inter (ap not some-mode) .long);
+      rest = λ e. (omega (arith, f .importance (all e) .long), omega (arith, f .threshold (all e) .long));
     }
 
 lookahead-offset-requires : tie.Need-lookahead-offset-requires
 lookahead-offset-requires c κs = search needs
 
 bare-requires : tie.Need-bare-requires
-bare-requires c κs = search needs
+bare-requires c κs = sym (counted (begin (c .before)))
 
 returns : tie.Need-returns
 returns c =
@@ -110,7 +93,7 @@ none-cut-requires : tie.Need-none-cut-requires
 none-cut-requires c κs = search needs
 
 bare-requires-2 : tie.Need-bare-requires-2
-bare-requires-2 c κs = search needs
+bare-requires-2 c κs = sym (counted (start (c .before .before .before)))
 
 returns-2 : tie.Need-returns-2
 returns-2 c =
@@ -125,27 +108,21 @@ returns-2 c =
 initialized-requires : tie.Need-initialized-requires
 initialized-requires c κs =
     let s = start (c .before .before) in
-    let f = at s in
-    let h = shaped s in
-    let g = s .args .s .settings in
-    let o = s .args .s .offset in
-    let l = later (c .before .before) in
-    let never : s .args .length ≡ 1 → lookaheadOffset g ≡ 0 → o ≡ 0 → ⊥ = λ i j k. c .if2 .left (eqb-true (g .mode) 0 (f .goes i j k)) in (
+    let f = at s in (
       record {
-        few = h .few;
         short = f .short;
         small = f .small;
-        empty = λ z. (omega (arith, h .empty z), two o (s .args .length) (lookaheadOffset g) never l (h .empty z));
-        within = h .within;
-        falls = above o (s .args .length) (lookaheadOffset g) never l;
+        empty = λ z. empty (view (s .args .s)) (given s) f (later (c .before .before)) (ne-eqb _ _ (c .if2 .left)) (counted s ∙ z);
       },
       covered c,
     )
 
 advanced-requires : tie.Need-advanced-requires
 advanced-requires c κs =
-    let s = start (c .before .before .before) in
-    ((c .initialized .ensures .1, at s .small), covered (c .before))
+    let e = c .before .before .before in
+    let s = start e in
+    let b = begun (view (s .args .s)) (given s) (at s) (later e) (ne-eqb _ _ (c .before .if2 .left)) in
+    ((rw (c .initialized .ensures) (b .ready), at s .small), covered (c .before))
 
 decided-requires : tie.Need-decided-requires
 decided-requires c κs = search needs
@@ -163,7 +140,7 @@ trimmed-requires : tie.Need-trimmed-requires
 trimmed-requires c κs = search needs
 
 next-state-requires : tie.Need-next-state-requires
-next-state-requires c κs = search needs
+next-state-requires c κs = exact-of (c .trimmed .result) _ (c .trimmed .ensures)
 
 returns-3 : tie.Need-returns-3
 returns-3 c =
@@ -182,7 +159,7 @@ returns-3 c =
     let k = rw (a .lookahead-offset .ensures) at (lt-leb _ _ (e1 .if1 .left)) in
     let d = q .advanced .result .deque in
     let t : turn (q .advanced .result) ≡ progressOf v w
-    = q .advanced .ensures ∙ ap (rule5 g (w .setLength) (w .number) (itemOf v w)) (b .initialized .ensures .0) in
+    = q .advanced .ensures ∙ ap (rule5 g (w .setLength) (w .number) (itemOf v w)) (b .initialized .ensures) in
     let cut : de .decided .result ≡ rule6 g (w .number - w .keyframe) (progressOf v w) = de .decided .ensures ∙ ap (rule6 g (w .number - w .keyframe)) t in
     let score : en .entry .result ≡ getD (progressOf v w .entries) (progressOf v w .offset) noScore
     = en .entry .ensures ∙ ap (λ (u : Turn). getD (u .entries) (u .offset) noScore) t in

@@ -1,4 +1,5 @@
--- `next_state` meets its contract: the first call sets both numbers, and a call that moves the release number does so after.
+-- `next_state` meets its contract: the first call sets both numbers, and a call that moves the release number does so after; the
+-- deque's count is that of its entries.
 -- Assumes nothing.
 use mathlib.Core.Path.{_≡_, sym, _∙_}
 use mathlib.Core.Bool.{cond}
@@ -27,12 +28,12 @@ returns : tie.Need-returns
 returns c =
     let t = c .before .before in
     let e = joined (t .before .before) in
-    rw (c .larger .ensures, c .before .reach-back .ensures, e .0, sym (t .before .moves-release .ensures) ∙ t .if2 .taken)
+    rw (c .larger .ensures, c .before .reach-back .ensures, e .0, sym (t .before .moves-release .ensures) ∙ t .if2 .taken, ← (t .before .before .before .before .before .pre))
 
 returns-2 : tie.Need-returns-2
 returns-2 c =
     let e = joined (c .before .before) in
-    rw (e .0, e .1, sym (c .before .moves-release .ensures) ∙ c .if2 .left)
+    rw (e .0, e .1, sym (c .before .moves-release .ensures) ∙ c .if2 .left, ← (c .before .before .before .before .before .pre))
 
 pub next-state-spec : {M : Type 1} → statement M
 next-state-spec =

@@ -72,7 +72,8 @@ returns c =
     let b = c .before in
     let a = b .before .before .before .before .args in
     let i : b .loop .i ≡ min (a .count) room = omega arith in
-    rw (b .loop .inv .1 .1 .1 .0) (read-all (a .count) (b .loop .out .entries) (a .scores .now) (b .loop .inv .1 .1 .0) (rw i at (b .loop .inv .1 .0)))
+    let n = b .loop .inv .1 .1 .1 .0 in
+    (rw n (read-all (a .count) (b .loop .out .entries) (a .scores .now) (b .loop .inv .1 .1 .0) (rw i at (b .loop .inv .1 .0))), n)
 
 pub lent-deque-spec : {M : Type 1} → statement M
 lent-deque-spec =

@@ -30,7 +30,7 @@ shared-slice-read-t17 c = search needs
 returns : tie.Need-returns
 returns c =
     let d = c .before .before .before .before .before in
-    rw (d .lent-deque .ensures, d .before .before .lent-settings .ensures)
+    rw (d .lent-deque .ensures .0, d .lent-deque .ensures .1, d .before .before .lent-settings .ensures)
 
 pub lent-state-spec : {M : Type 1} → statement M
 lent-state-spec =

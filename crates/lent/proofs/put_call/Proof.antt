@@ -1,17 +1,18 @@
 -- `lent::put_call` meets its contract: six stores behind the settings, up to the end. Assumes nothing.
-use mathlib.Core.List.{append-nil}
-use mathlib.Core.Path.{_∙_}
+use mathlib.Core.List.{List, _++_, append-nil}
+use mathlib.Core.Path.{_∙_, ap}
+use Prim.Native.Nat.{ℕ}
 use native.Mathlib.Omega.{arith}
 use borrow.Author.Needs.{needs}
-use lib.ListN.{length-set, drop-of-length-le}
+use lib.ListN.{take, length-set, drop-of-length-le}
 use lib.Seq.{sets-eq}
 use Rattle.state.specs.State.{view}
-use Rattle.lent.specs.Places.{callNumbers}
+use Rattle.lent.specs.Places.{numbersLong, settingsLong, callNumbers}
 use Rattle.lent.proofs.put_call.Statement.{statement}
 use Rattle.lent.proofs.put_call.Tie as tie
 
-held-requires : tie.Need-held-requires
-held-requires c κs = search needs
+entry-count-requires : tie.Need-entry-count-requires
+entry-count-requires c κs = search needs
 
 slice-write-numbers : tie.Need-slice-write-numbers
 slice-write-numbers c = search needs
@@ -38,13 +39,17 @@ returns : tie.Need-returns
 returns c =
     let a = c .before .before .args in
     let ns = a .numbers .now in
-    rw (c .held .ensures) (sets-eq (callNumbers (view (a .s))) ns 7 (omega arith) ∙ rw (drop-of-length-le ns {i = 13} (omega arith), append-nil))
+    let written = take settingsLong ns ++ callNumbers (view (a .s)) in
+    rw (c .entry-count .ensures)
+    (sets-eq (callNumbers (view (a .s))) ns settingsLong (omega arith)
+    ∙ ap (λ (r : List ℕ). written ++ r) (drop-of-length-le ns {i = numbersLong} (omega arith))
+    ∙ append-nil written)
 
 pub put-call-spec : {M : Type 1} → statement M
 put-call-spec =
     tie.close
     (tie.spec
-    held-requires
+    entry-count-requires
     slice-write-numbers
     slice-write-numbers-2
     slice-write-numbers-3

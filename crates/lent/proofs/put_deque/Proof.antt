@@ -29,10 +29,10 @@ few c =
     let k = c .before .before in
     let d = k .before .before .args .t2 in
     let r : length (d .entries) ≡ room = roomy d _ (k .before .before .good .1 .0) in
-    omega (arith, k .held .ensures, length-take (d .count) (d .entries))
+    omega (arith, k .entry-count .ensures, length-take (d .count) (d .entries))
 
-held-requires : tie.Need-held-requires Inv-loop μ-loop
-held-requires c κs = search needs
+entry-count-requires : tie.Need-entry-count-requires Inv-loop μ-loop
+entry-count-requires c κs = search needs
 
 loop-holds : tie.Need-loop-holds Inv-loop μ-loop
 loop-holds c = (omega arith, (c .before .before .pre, placed-none (c .before .before .args .scores .now)))
@@ -90,7 +90,7 @@ returns : tie.Need-returns Inv-loop μ-loop
 returns c =
     let b = c .before in
     let d = b .before .before .before .args .t2 in
-    let i : b .loop .i ≡ length (content d) = omega (arith, b .before .held .ensures) in
+    let i : b .loop .i ≡ length (content d) = omega (arith, b .before .entry-count .ensures) in
     b .loop .inv .1 .1 ∙ rw (i, take-content d)
 
 pub put-deque-spec : {M : Type 1} → statement M
@@ -99,7 +99,7 @@ put-deque-spec =
     (tie.spec
     Inv-loop
     μ-loop
-    held-requires
+    entry-count-requires
     loop-holds
     mul-at
     mul-e

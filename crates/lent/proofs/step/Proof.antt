@@ -1,5 +1,5 @@
--- `lent::step` meets its contract: the state is read from its places, stepped, and what the step changed is put back; a refusal and a
--- decision without a score leave what they do not change. Assumes nothing.
+-- `lent::step` meets its contract: the state is read from its places, stepped, and what the step changed is put back.
+-- Assumes nothing.
 use mathlib.Core.Path.{_≡_, refl, ap, _∙_}
 use mathlib.Core.Bool.{true}
 use borrow.Author.Needs.{needs}
@@ -47,11 +47,8 @@ lent-state-requires c κs = search needs
 step-requires : tie.Need-step-requires
 step-requires c κs = search needs
 
-enum-known-answer : tie.Need-enum-known-answer
-enum-known-answer c = search needs
-
-enum-told : tie.Need-enum-told
-enum-told c = search needs
+put-stepped-requires : tie.Need-put-stepped-requires
+put-stepped-requires c κs = search needs
 
 same-length : tie.Need-same-length
 same-length c = search needs
@@ -61,48 +58,9 @@ same-length-2 c = search needs
 
 returns-3 : tie.Need-returns-3
 returns-3 c =
-    let s = c .before .before .before in
-    rw (state s, ← stepped s) (refl, rw (c .enum-told .given .1) (refl, refl))
-
-put-call-requires : tie.Need-put-call-requires
-put-call-requires c κs = search needs
-
-enum-known-d : tie.Need-enum-known-d
-enum-known-d c = search needs
-
-enum-told-2 : tie.Need-enum-told-2
-enum-told-2 c = search needs
-
-same-length-3 : tie.Need-same-length-3
-same-length-3 c = search needs
-
-same-length-4 : tie.Need-same-length-4
-same-length-4 c = search needs
-
-returns-4 : tie.Need-returns-4
-returns-4 c =
     let p = c .before .before .before .before in
-    let t = p .before .before in
-    let s = t .before .before .before .before in
-    rw (state s, ← stepped s, t .before .answer .given .1) (refl, rw (c .enum-told2 .given .1) (p .put-call .ensures, refl))
-
-put-deque-requires : tie.Need-put-deque-requires
-put-deque-requires c κs = search needs
-
-same-length-5 : tie.Need-same-length-5
-same-length-5 c = search needs
-
-same-length-6 : tie.Need-same-length-6
-same-length-6 c = search needs
-
-returns-5 : tie.Need-returns-5
-returns-5 c =
-    let q = c .before .before in
-    let u = q .before .before in
-    let p = u .before .before .before .before .before in
-    let t = p .before .before in
-    let s = t .before .before .before .before in
-    rw (state s, ← stepped s, t .before .answer .given .1) (refl, rw (u .before .d .given .1) (p .put-call .ensures, q .put-deque .ensures))
+    let s = p .before .before .before in
+    rw (state s, ← stepped s) (p .put-stepped .ensures)
 
 pub step-spec : {M : Type 1} → statement M
 step-spec =
@@ -112,18 +70,7 @@ step-spec =
     returns-2
     lent-state-requires
     step-requires
-    enum-known-answer
-    enum-told
+    put-stepped-requires
     same-length
     same-length-2
-    returns-3
-    put-call-requires
-    enum-known-d
-    enum-told-2
-    same-length-3
-    same-length-4
-    returns-4
-    put-deque-requires
-    same-length-5
-    same-length-6
-    returns-5)
+    returns-3)

@@ -9,9 +9,9 @@ use lib.ListN.{length}
 use Rattle.settings.specs.Settings.{room, isFast, isScaled, fastThreshold}
 use Rattle.score.specs.Deque.{content}
 use Rattle.score.specs.Scores.{scoreOf}
+use Rattle.score.proofs.Scored.{score-kept}
 use Rattle.score.proofs.Room.{entries-of}
 use Rattle.detector.specs.Rules.{measureOf, againOf}
-use Rattle.detector.proofs.Long.{score-kept}
 use native.Mathlib.Omega.{arith}
 use borrow.Author.Needs.{needs}
 use Rattle.detector.proofs.rules.advanced.Statement.{statement}
@@ -58,11 +58,11 @@ returns c =
     let q = a .q in
     let m = againOf (q .again && isScaled g) (measureOf (isFast g) (now (a .inter)) (now (a .importance)) (now (a .threshold)) (q .offset)) in
     let x = scoreOf (isFast g) (fastThreshold g) (q .offset) (a .n + q .offset) m (content (q .deque)) in
-    let fits : length (content (q .deque)) < room = omega (arith, s .pre .0 .0 .exact, s .pre .0 .0 .few) in
+    let fits : length (content (q .deque)) < room = s .pre .0 .0 .few in
     let e : content (c .run-comparison .result) ≡ x
     = entries-of (c .run-comparison .result) _ (c .run-comparison .ensures)
     ∙ rw (again .measured-again .ensures, measured .measure-at .ensures, sc .scaled .ensures, level .fast-threshold .ensures)
-    (score-kept (isFast g) (fastThreshold g) (q .offset) (a .n + q .offset) m (content (q .deque)) fits) in
+    (score-kept (fastThreshold g) (q .offset) (a .n + q .offset) m (content (q .deque)) (isFast g) fits) in
     rw (lt-ltb _ _ (t .if1 .taken), e)
 
 sub-t17 : tie.Need-sub-t17

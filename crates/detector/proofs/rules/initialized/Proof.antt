@@ -1,8 +1,8 @@
--- `initialized` meets its contract: its three returns are the definition's three cases, and each leaves room for one entry more.
+-- `initialized` meets its contract: its three returns are the definition's three cases.
 -- Assumes nothing.
-use mathlib.Core.Path.{_≡_, sym, ap}
+use mathlib.Core.Path.{_≡_, ap}
 use mathlib.Core.List.{List}
-use Prim.Native.Nat.{ℕ, _+_, _-_, _≤_, _<_}
+use Prim.Native.Nat.{ℕ, _+_, _-_, _<_}
 use borrow.Author.Tests.{ne-eqb, ltb-true}
 use denote.Ref.{now}
 use lib.Dec.{ltb}
@@ -10,10 +10,9 @@ use lib.ListN.{length, take}
 use Rattle.settings.specs.Settings.{room, isFast, fastThreshold}
 use Rattle.score.specs.declared.ScenecutResult.{ScenecutResult}
 use Rattle.score.specs.Deque.{content}
-use Rattle.score.proofs.Room.{roomy, long, entries-of, count-of, exact-of}
-use Rattle.state.proofs.Tests.{and-both, positive}
+use Rattle.score.proofs.Room.{roomy, long-min, entries-of}
+use Rattle.state.proofs.Tests.{and-both}
 use Rattle.detector.specs.Rules.{measureOf, itemsOf}
-use Rattle.detector.proofs.Long.{items-long}
 use native.Mathlib.Omega.{arith}
 use Rattle.detector.proofs.rules.initialized.Statement.{statement}
 use Rattle.detector.proofs.rules.initialized.Tie as tie
@@ -30,9 +29,6 @@ items s k =
     itemsOf (isFast (s .args .g)) (fastThreshold (s .args .g)) (s .args .o) (s .args .n)
     (measureOf (isFast (s .args .g)) (now (s .args .inter)) (now (s .args .importance)) (now (s .args .threshold))) k (content (s .args .d))
 
-many : (s : tie.Start) (k : ℕ) → length (items s k) ≡ k + length (content (s .args .d))
-many s k = items-long _ _ _ _ _ k _
-
 empty : (c : tie.Else1) → length (content (start c .args .d)) ≡ 0
 empty c = ap (λ (n : ℕ). length (take n (start c .args .d .entries))) (c .if1 .left)
 
@@ -46,10 +42,7 @@ returns c =
     let s = start3 (c .before) in
     let d = s .args .d in
     let r : length (d .entries) ≡ room = roomy d _ (s .good .1 .1 .1 .1 .1 .1 .1 .0) in
-    let p = s .pre .0 in
-    let n : length (content d) ≡ d .count = long d r (omega (arith, p .few)) in
-    let w = p .within (positive (d .count) (c .if1 .taken)) in
-    (rw (n, ne-eqb _ _ (c .if1 .taken)), record { exact = sym n; few = p .few; at = omega arith; falls = p .falls })
+    rw (ne-eqb (length (content d)) 0 (λ z. c .if1 .taken (omega (arith, long-min d r))))
 
 add-if2 : tie.Need-add-if2
 add-if2 c =
@@ -70,9 +63,7 @@ returns-2 c =
     let x = items s (s .args .o) in
     let e = c .items-scored .result in
     let h = c .items-scored .ensures in
-    let n : e .count ≡ s .args .o = omega (arith, count-of e x h, many s (s .args .o), z) in
-    let t = taken (c .before) in
-    (rw (entries-of e x h, z, c .before .if2 .taken), record { exact = exact-of e x h; few = omega (arith, s .pre .0 .short); at = omega arith; falls = λ l. omega arith })
+    rw (entries-of e x h, z, c .before .if2 .taken)
 
 sub-at : tie.Need-sub-at
 sub-at c = start (c .before) .pre .0 .empty (c .before .if1 .left) .1
@@ -96,9 +87,7 @@ returns-3 c =
     let x = items s k in
     let e = c .items-scored2 .result in
     let h = c .items-scored2 .ensures in
-    let two : 2 ≤ s .args .length = s .pre .0 .empty (c .before .before .if1 .left) .1 in
-    let n : e .count ≡ k = omega (arith, count-of e x h, many s k, z) in
-    (rw (entries-of e x h, z, c .before .if2 .left), record { exact = exact-of e x h; few = omega (arith, s .pre .0 .short); at = omega arith; falls = λ l. omega arith })
+    rw (entries-of e x h, z, c .before .if2 .left)
 
 pub initialized-spec : {M : Type 1} → statement M
 initialized-spec =

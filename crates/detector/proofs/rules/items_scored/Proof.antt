@@ -7,9 +7,10 @@ use lib.ListN.{length, length-take}
 use denote.Ref.{now}
 use Rattle.settings.specs.Settings.{room, isFast}
 use Rattle.score.specs.Deque.{content, held, holding}
+use Rattle.score.proofs.Scored.{score-kept}
 use Rattle.score.proofs.Room.{roomy, held-is, long, entries-of}
 use Rattle.detector.specs.Rules.{measureOf, itemsOf}
-use Rattle.detector.proofs.Long.{items-long, score-kept}
+use Rattle.detector.proofs.Items.{items-long}
 use borrow.Author.Needs.{needs}
 use native.Mathlib.Omega.{arith}
 use Rattle.detector.proofs.rules.items_scored.Statement.{statement}
@@ -60,9 +61,9 @@ loop-again c =
     let item = measureOf fast (now (a .inter)) (now (a .importance)) (now (a .threshold)) in
     let x = itemsOf fast level (a .o) (a .n) item i (content d) in
     let e = entries-of (b .before .loop .out) x (b .before .loop .inv .1) in
-    let h = items-long fast level (a .o) (a .n) item i (content d) in
+    let h = items-long fast level (a .o) (a .n) item (content d) i in
     let room-left : length x < room = omega (arith, length-take (d .count) (d .entries), s .pre .0) in
-    (omega arith, rw add-one (c .run-comparison .ensures ∙ rw (c .before .measure-at .ensures, e) (ap holding (score-kept fast level (a .o) (a .n + i) (item i) x room-left))))
+    (omega arith, rw add-one (c .run-comparison .ensures ∙ rw (c .before .measure-at .ensures, e) (ap holding (score-kept level (a .o) (a .n + i) (item i) x fast room-left))))
 
 returns : tie.Need-returns Inv-loop μ-loop
 returns c =

@@ -94,7 +94,7 @@ loop-again c =
     let w : Call = call (getD (now (a .lengths)) j 0) (getD (now (a .numbers)) j 0) (getD (now (a .keyframes)) j 0) (take k (drop j (now (a .inter)))) (take k (drop j (now (a .importance)))) (take k (drop j (now (a .threshold)))) in
     let rest = left (now (a .numbers)) (now (a .lengths)) (now (a .keyframes)) (now (a .inter)) (now (a .importance)) (now (a .threshold)) (j + 1) in
     let e : outcome (c .then-step .result) ≡ thenStep (outcome (at .loop .last)) w
-    = c .then-step .ensures ∙ rw (w1 .window .ensures, w2 .window2 .ensures, w3 .window3 .ensures, it .items-of .ensures) in
+    = c .then-step .ensures .0 ∙ rw (w1 .window .ensures, w2 .window2 .ensures, w3 .window3 .ensures, it .items-of .ensures) in
     let more = calls-more (now (a .numbers)) (now (a .lengths)) (now (a .keyframes)) (now (a .inter)) (now (a .importance)) (now (a .threshold)) j (omega arith) (omega arith) (omega arith) in
     (omega arith, at .loop .inv .1 ∙ ap (runOf (outcome (at .loop .last))) more ∙ run-more (outcome (at .loop .last)) w rest ∙ ap (λ (o : Outcome). runOf o rest) (sym e))
 

@@ -8,7 +8,7 @@ use lib.Seq.{getD-take}
 use Rattle.settings.specs.Settings.{room}
 use Rattle.score.specs.Deque.{content, noScore}
 use Rattle.score.specs.Search.{anyOf}
-use Rattle.score.specs.Costs.{asked}
+use Rattle.score.specs.Needs.{asked}
 use Rattle.score.proofs.Room.{roomy, long}
 use Rattle.score.proofs.Counts.{any-end, any-more}
 use borrow.Author.Needs.{needs}
