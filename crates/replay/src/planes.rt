@@ -1,150 +1,189 @@
-// Records on two planes: the planes themselves, their differences, the SATD.
-use crate::desk;
-use crate::desk::get;
-use crate::desk::word;
-use crate::drawn;
-use crate::float;
-use crate::line;
-use crate::tally;
+// Calls on planes and on costs. Planes: the depth, then of each plane its length, width, height, stride and origin.
+use crate::desk::half;
+use crate::desk::len;
+use crate::desk::len_at;
+use crate::memory;
+use crate::parts;
 
-// How many numbers a shape has, and where a plane's record goes on behind its picture.
-const NUMBERS: usize = 5;
+const SAMPLES: usize = 8704;
 
-const PICTURE: usize = 9;
+const COSTS: usize = 64;
 
-// What a place for a float holds before a call.
-const BEFORE: f64 = 12345.5;
-
-// A plane's shape, and how many samples it has.
-pub struct Shape {
-    pub width: usize,
-    pub height: usize,
-    pub stride: usize,
-    pub origin: usize,
-    pub len: usize,
+struct Shape {
+    len: usize,
+    width: usize,
+    height: usize,
+    stride: usize,
+    origin: usize,
 }
 
-pub fn shape_of(desk: &[u64], which: usize) -> Shape {
-    let at = desk::SHAPE + which % 2 * NUMBERS;
+fn shape_at(desk: &[u64], at: usize) -> Shape {
     Shape {
-        width: get(desk, at) as usize,
-        height: get(desk, at + 1) as usize,
-        stride: get(desk, at + 2) as usize,
-        origin: get(desk, at + 3) as usize,
-        len: get(desk, at + 4) as usize,
+        len: len(desk, at),
+        width: len_at(desk, at, 1),
+        height: len_at(desk, at, 2),
+        stride: len_at(desk, at, 3),
+        origin: len_at(desk, at, 4),
     }
 }
 
-// P: which, width, height, stride, origin, length, low, span, seed, samples that differ
-pub fn plane(desk: &mut [u64], samples: &mut [u8]) {
-    let which = desk::capped(desk, word(desk, 0), 1);
-    for i in 0..NUMBERS {
-        let n = word(desk, i + 1);
-        desk::put_at(desk, desk::SHAPE + which * NUMBERS, i, n);
-    }
-    drawn::paint(desk, samples, which * drawn::SAMPLES);
-    drawn::put_samples(desk, samples, which * drawn::SAMPLES, PICTURE);
-}
-
-// The two measures that are whole numbers.
-fn wholes(desk: &mut [u64], a: Shape, first: &[u8], b: Shape, second: &[u8]) {
-    let depth = line::half(word(desk, 0));
-    let difference = brinepulley::brine_plane_difference(
-        depth,
-        first,
+fn difference(desk: &[u64], first: &[u8], second: &[u8]) -> i64 {
+    let a = shape_at(desk, 2);
+    let b = shape_at(desk, 7);
+    brinepulley::brine_plane_difference(
+        half(desk, 1),
+        parts::samples(first, 0, a.len),
         a.width,
         a.height,
         a.stride,
         a.origin,
-        second,
+        parts::samples(second, 0, b.len),
         b.width,
         b.height,
         b.stride,
         b.origin,
-    );
-    let due = word(desk, 1);
-    tally::verdict(
+    )
+}
+
+fn total(desk: &[u64], first: &[u8], second: &[u8]) -> i64 {
+    let a = shape_at(desk, 2);
+    let b = shape_at(desk, 7);
+    brinepulley::brine_importance_total(
+        half(desk, 1),
+        parts::samples(first, 0, a.len),
+        a.width,
+        a.height,
+        a.stride,
+        a.origin,
+        parts::samples(second, 0, b.len),
+        b.width,
+        b.height,
+        b.stride,
+        b.origin,
+    )
+}
+
+fn delta(desk: &[u64], first: &[u8], second: &[u8], quotient: &mut f64) -> i64 {
+    let a = shape_at(desk, 2);
+    let b = shape_at(desk, 7);
+    brinepulley::brine_delta(
+        half(desk, 1),
+        parts::samples(first, 0, a.len),
+        a.width,
+        a.height,
+        a.stride,
+        a.origin,
+        parts::samples(second, 0, b.len),
+        b.width,
+        b.height,
+        b.stride,
+        b.origin,
+        quotient,
+    )
+}
+
+fn importance(desk: &[u64], first: &[u8], second: &[u8], quotient: &mut f64) -> i64 {
+    let a = shape_at(desk, 2);
+    let b = shape_at(desk, 7);
+    brinepulley::brine_importance(
+        half(desk, 1),
+        parts::samples(first, 0, a.len),
+        a.width,
+        a.height,
+        a.stride,
+        a.origin,
+        parts::samples(second, 0, b.len),
+        b.width,
+        b.height,
+        b.stride,
+        b.origin,
+        quotient,
+    )
+}
+
+// The second plane is the work plane; then the length of the costs.
+fn intra(desk: &[u64], first: &[u8], second: &mut [u8], costs: &mut [u32]) -> i64 {
+    let a = shape_at(desk, 2);
+    let b = shape_at(desk, 7);
+    brinepulley::brine_intra_costs(
+        half(desk, 1),
+        parts::samples(first, 0, a.len),
+        a.width,
+        a.height,
+        a.stride,
+        a.origin,
+        parts::work(second, 0, b.len),
+        b.width,
+        b.height,
+        b.stride,
+        b.origin,
+        parts::room(costs, 0, len(desk, 12)),
+    )
+}
+
+// The SATD of the samples of both planes.
+fn satd(desk: &[u64], first: &[u8], second: &[u8]) -> i64 {
+    brinepulley::brine_satd8x8(
+        parts::samples(first, 0, len(desk, 2)),
+        parts::samples(second, 0, len(desk, 7)),
+    )
+}
+
+// How many costs are given, and the count.
+fn threshold(desk: &[u64], costs: &[u32], quotient: &mut f64) -> i64 {
+    brinepulley::brine_threshold(parts::costs(costs, 0, len(desk, 1)), len(desk, 2), quotient)
+}
+
+fn call(
+    letter: u8,
+    desk: &[u64],
+    first: &[u8],
+    second: &mut [u8],
+    costs: &mut [u32],
+    quotient: &mut f64,
+) -> i64 {
+    match letter {
+        b'P' => difference(desk, first, second),
+        b'M' => total(desk, first, second),
+        b'D' => delta(desk, first, second, quotient),
+        b'I' => importance(desk, first, second, quotient),
+        b'B' => satd(desk, first, second),
+        b'C' => intra(desk, first, second, costs),
+        _ => threshold(desk, costs, quotient),
+    }
+}
+
+// Whether what was lent is as it should be.
+fn is_right(desk: &[u64], second: &mut [u8], costs: &mut [u32]) -> bool {
+    memory::samples(desk, second, memory::SECOND, false)
+        & memory::costs(desk, costs, memory::COSTS, false)
+}
+
+// A call over the lists that it is given or lent.
+fn replay_in(
+    letter: u8,
+    desk: &[u64],
+    first: &mut [u8],
+    second: &mut [u8],
+    costs: &mut [u32],
+) -> bool {
+    memory::samples(desk, first, memory::FIRST, true);
+    memory::samples(desk, second, memory::SECOND, true);
+    memory::costs(desk, costs, memory::COSTS, true);
+    let mut quotient = memory::quotient(desk);
+    let answer = call(letter, desk, first, second, costs, &mut quotient);
+    is_right(desk, second, costs) & memory::is_result(desk, answer, quotient)
+}
+
+pub fn replay(letter: u8, desk: &[u64]) -> bool {
+    let mut first = [0u8; SAMPLES];
+    let mut second = [0u8; SAMPLES];
+    let mut costs = [0u32; COSTS];
+    replay_in(
+        letter,
         desk,
-        tally::DIFFERENCE,
-        due,
-        difference == line::signed(due),
-    );
-    let total = brinepulley::brine_importance_total(
-        depth,
-        first,
-        a.width,
-        a.height,
-        a.stride,
-        a.origin,
-        second,
-        b.width,
-        b.height,
-        b.stride,
-        b.origin,
-    );
-    let due = word(desk, 2);
-    tally::verdict(desk, tally::TOTAL, due, total == line::signed(due));
-}
-
-// The two that are quotients.
-fn reals(desk: &mut [u64], a: Shape, first: &[u8], b: Shape, second: &[u8]) {
-    let depth = line::half(word(desk, 0));
-    let due = word(desk, 3);
-    let mut delta = BEFORE;
-    let answer = brinepulley::brine_delta(
-        depth,
-        first,
-        a.width,
-        a.height,
-        a.stride,
-        a.origin,
-        second,
-        b.width,
-        b.height,
-        b.stride,
-        b.origin,
-        &mut delta,
-    );
-    let is_same = float::same(delta, word(desk, 4)) & (answer == line::signed(due));
-    tally::verdict(desk, tally::DELTA, due, is_same);
-    let mut importance = BEFORE;
-    let answer = brinepulley::brine_importance(
-        depth,
-        first,
-        a.width,
-        a.height,
-        a.stride,
-        a.origin,
-        second,
-        b.width,
-        b.height,
-        b.stride,
-        b.origin,
-        &mut importance,
-    );
-    let is_same = float::same(importance, word(desk, 5)) & (answer == line::signed(due));
-    tally::verdict(desk, tally::IMPORTANCE, due, is_same);
-}
-
-// D: depth, plane difference, importance total, what the other two answer, delta, importance
-pub fn pair(desk: &mut [u64], samples: &[u8]) {
-    desk::expect_words(desk, 6);
-    let a = shape_of(desk, 0);
-    let b = shape_of(desk, 1);
-    let first = drawn::part(samples, 0, a.len);
-    let second = drawn::part(samples, drawn::SAMPLES, b.len);
-    wholes(desk, a, first, b, second);
-    reals(desk, a, first, b, second);
-}
-
-// B: the SATD of the samples of the two planes
-pub fn satd(desk: &mut [u64], samples: &[u8]) {
-    desk::expect_words(desk, 1);
-    let a = shape_of(desk, 0);
-    let b = shape_of(desk, 1);
-    let first = drawn::part(samples, 0, a.len);
-    let second = drawn::part(samples, drawn::SAMPLES, b.len);
-    let answer = brinepulley::brine_satd8x8(first, second);
-    let due = word(desk, 0);
-    tally::verdict(desk, tally::SATD, due, answer == line::signed(due));
+        &mut first[..],
+        &mut second[..],
+        &mut costs[..],
+    )
 }
