@@ -13,61 +13,79 @@ pub const FIRST: usize = 1408;
 pub const SECOND: usize = 10112;
 const PLACES: usize = 18816;
 
-/// A copy is looked for among so many places before and behind, and at the same place of the other plane.
-const NEAR: usize = 1500;
+/// A copy is looked for in the other plane, and among so many places before and behind, unless so many words can stay where
+/// they are.
+const NEAR: usize = 700;
+const STAY: usize = 8;
 
-#[derive(Clone)]
-pub struct Memory(Vec<u64>);
+/// What the reader's memory holds, what it is to hold next, and the end of what was put there.
+pub struct Memory {
+    now: Vec<u64>,
+    next: Vec<u64>,
+    end: usize,
+}
 
 impl Memory {
     pub fn new() -> Self {
-        Memory(vec![0; PLACES])
+        Memory { now: vec![0; PLACES], next: vec![0; PLACES], end: 0 }
     }
 
     /// Words from the first place of a kind on.
     pub fn put(&mut self, at: usize, words: &[u64]) {
-        let end = [STATE, SCORES, QUOTIENT, LISTS, COSTS, ENTRIES, FIRST, SECOND, PLACES].into_iter().find(|&end| end > at);
-        assert!(at + words.len() <= end.unwrap(), "words that the reader has no room for");
-        self.0[at..at + words.len()].copy_from_slice(words);
+        let ends = [STATE, SCORES, QUOTIENT, LISTS, COSTS, ENTRIES, FIRST, SECOND, PLACES];
+        let (room, end) = (ends.into_iter().find(|&end| end > at).unwrap(), at + words.len());
+        assert!(end <= room, "words that the reader has no room for");
+        if self.next[at..end] != *words {
+            self.next[at..end].copy_from_slice(words);
+            self.end = self.end.max(end);
+        }
     }
 
-    /// The words and copies that make another memory of this one.
-    pub fn edits(&self, to: &Memory) -> String {
-        let (mut now, mut text, mut at) = (self.0.clone(), String::new(), 0);
-        let end = (0..PLACES).rev().find(|&i| now[i] != to.0[i]).map_or(0, |i| i + 1);
-        while at < end {
-            let (from, count) = copied(&now, &to.0, at, end);
-            let word = |i: usize| format!("{:x} ", to.0[i]);
+    /// The words and copies that make what is to be of what is.
+    pub fn edits(&mut self) -> String {
+        let (mut text, mut at) = (String::new(), 0);
+        while at < self.end {
+            let (from, count) = self.copied(at);
+            let word = |i: usize| format!("{:x} ", self.next[i]);
             let copy = format!("{count:x}.{from:x} ");
-            let count = if (at..at + count).map(|i| word(i).len()).sum::<usize>() > copy.len() {
-                text += &copy;
-                count
-            } else {
-                text += &word(at);
-                1
-            };
-            now[at..at + count].copy_from_slice(&to.0[at..at + count]);
-            at += count;
+            let is_shorter = copy.len() < (at..at + count.min(8)).map(|i| word(i).len()).sum::<usize>();
+            text += if is_shorter { copy } else { word(at) }.as_str();
+            let end = at + if is_shorter { count } else { 1 };
+            self.now[at..end].copy_from_slice(&self.next[at..end]);
+            at = end;
         }
+        self.end = 0;
         text
     }
-}
 
-/// The longest part that the reader has to copy, word after word, for what is to stand from a place on.
-fn copied(now: &[u64], to: &[u64], at: usize, end: usize) -> (usize, usize) {
-    let length = |from: usize| {
-        let same = |&k: &usize| {
-            let place = from + k;
-            place < PLACES && to[at + k] == if (at..at + k).contains(&place) { to[place] } else { now[place] }
-        };
-        (0..end - at).take_while(same).count()
-    };
-    let other = if at < SECOND { at + SECOND - FIRST } else { at + FIRST - SECOND };
-    let near = at.saturating_sub(NEAR)..at + NEAR;
-    std::iter::once(at)
-        .chain([other])
-        .chain(near)
-        .map(|from| (from, length(from)))
-        .reduce(|best, next| if next.1 > best.1 { next } else { best })
-        .unwrap()
+    /// The longest part that the reader has to copy for what is to stand from a place on.
+    fn copied(&self, at: usize) -> (usize, usize) {
+        let other = if at < SECOND { at } else { at + FIRST - SECOND };
+        let mut best = [at, other].map(|from| (from, self.copies(from, at))).into_iter().max_by_key(|b| b.1).unwrap();
+        if best.1 >= STAY {
+            return best;
+        }
+        let mut from = at.saturating_sub(NEAR);
+        while from < (at + NEAR).min(PLACES) {
+            if self.now[from] == self.next[at] {
+                let count = self.copies(from, at);
+                best = if count > best.1 { (from, count) } else { best };
+            }
+            from += 1;
+        }
+        best
+    }
+
+    /// How many words are as they should be where the reader copies them one by one.
+    fn copies(&self, from: usize, at: usize) -> usize {
+        let mut k = 0;
+        while at + k < self.end && from + k < PLACES {
+            let is_new = at <= from + k && from + k < at + k;
+            if self.next[at + k] != if is_new { self.next[from + k] } else { self.now[from + k] } {
+                break;
+            }
+            k += 1;
+        }
+        k
+    }
 }

@@ -11,16 +11,14 @@ const ENTRY: usize = 5;
 
 pub struct Paper {
     text: String,
-    /// The memory as the lines so far leave it, and as it is to be next.
     memory: Memory,
-    next: Memory,
     /// A state that the next step is to find: its numbers and its floats.
     given: Option<[Vec<u64>; 2]>,
 }
 
 impl Paper {
     pub fn new() -> Self {
-        Paper { text: String::new(), memory: Memory::new(), next: Memory::new(), given: None }
+        Paper { text: String::new(), memory: Memory::new(), given: None }
     }
 
     pub fn record(&mut self, kind: Kind, words: &[u64]) {
@@ -44,26 +42,19 @@ impl Paper {
     }
 
     fn put(&mut self, at: usize, words: &[u64]) {
-        self.next.put(at, words);
+        self.memory.put(at, words);
     }
 
     /// A line: the answer that is due and the numbers that are given, with what was put; the call; what it writes.
     fn call(&mut self, letter: char, answer: u64, numbers: &[u64], written: &[(usize, &[u64])]) {
         self.put(0, &[&[answer], numbers].concat());
-        self.edit();
-        self.text.push(letter);
-        self.text.push(' ');
+        let given = self.memory.edits();
         for &(at, words) in written {
             self.put(at, words);
         }
-        self.edit();
-        self.text.truncate(self.text.trim_end().len());
+        let line = format!("{given}{letter} {}", self.memory.edits());
+        self.text += line.trim_end();
         self.text.push('\n');
-    }
-
-    fn edit(&mut self) {
-        self.text += &self.memory.edits(&self.next);
-        self.memory = self.next.clone();
     }
 
     /// A plane's samples are put. Its length, and its width, height, stride and origin.

@@ -8,14 +8,13 @@ use crate::memory;
 use crate::parts;
 use crate::planes;
 
-// Where the numbers of a state are lent, behind those that are given, and how long each list of measures may be.
-const STATE: usize = 144;
-
+// Room for a list of measures, and for three; for the numbers and the floats of a state; for entries.
 const LIST: usize = 64;
 
 const LISTS: usize = 192;
 
-// Room for the floats of a state, and for entries.
+const NUMBERS: usize = 496;
+
 const SCORES: usize = 511;
 
 const ENTRIES: usize = 128;
@@ -47,69 +46,63 @@ fn transform(letter: u8, desk: &[u64]) -> bool {
 }
 
 // The seven settings; how many numbers and how many floats are lent.
-fn fresh(desk: &mut [u64], scores: &mut [f64]) -> i64 {
-    let width = len(desk, 1);
-    let height = len(desk, 2);
-    let depth = half(desk, 3);
-    let lookahead = len(desk, 4);
-    let mode = half(desk, 5);
-    let min = word(desk, 6);
-    let max = word(desk, 7);
-    let numbers = len(desk, 8);
-    let floats = len(desk, 9);
+fn fresh(desk: &[u64], numbers: &mut [u64], scores: &mut [f64]) -> i64 {
     brinepulley::brine_detector_fresh(
-        width,
-        height,
-        depth,
-        lookahead,
-        mode,
-        min,
-        max,
-        parts::numbers(desk, STATE, numbers),
-        parts::scores(scores, 0, floats),
+        len(desk, 1),
+        len(desk, 2),
+        half(desk, 3),
+        len(desk, 4),
+        half(desk, 5),
+        word(desk, 6),
+        word(desk, 7),
+        parts::numbers(numbers, 0, len(desk, 8)),
+        parts::scores(scores, 0, len(desk, 9)),
     )
 }
 
 // How many numbers and how many floats are lent; L, n, p; how long each list is.
-fn step(desk: &mut [u64], scores: &mut [f64], lists: &[f64]) -> i64 {
-    let numbers = len(desk, 1);
-    let floats = len(desk, 2);
-    let set = len(desk, 3);
-    let frame = word(desk, 4);
-    let previous = word(desk, 5);
-    let inter = parts::reals(lists, 0, len(desk, 6));
-    let importance = parts::reals(lists, LIST, len(desk, 7));
-    let threshold = parts::reals(lists, 2 * LIST, len(desk, 8));
+fn step(desk: &[u64], numbers: &mut [u64], scores: &mut [f64], lists: &[f64]) -> i64 {
     brinepulley::brine_detector_step(
-        parts::numbers(desk, STATE, numbers),
-        parts::scores(scores, 0, floats),
-        set,
-        frame,
-        previous,
-        inter,
-        importance,
-        threshold,
+        parts::numbers(numbers, 0, len(desk, 1)),
+        parts::scores(scores, 0, len(desk, 2)),
+        len(desk, 3),
+        word(desk, 4),
+        word(desk, 5),
+        parts::reals(lists, 0, len(desk, 6)),
+        parts::reals(lists, LIST, len(desk, 7)),
+        parts::reals(lists, 2 * LIST, len(desk, 8)),
     )
 }
 
-fn detected(letter: u8, desk: &mut [u64], scores: &mut [f64], lists: &[f64]) -> i64 {
-    if letter == b'F' {
-        return fresh(desk, scores);
-    }
-    step(desk, scores, lists)
+// Whether the state is as it should be.
+fn is_state(desk: &[u64], numbers: &mut [u64], scores: &mut [f64]) -> bool {
+    memory::numbers(desk, numbers, memory::STATE, false)
+        & memory::reals(desk, scores, memory::SCORES, false)
 }
 
-fn detect_in(letter: u8, desk: &mut [u64], scores: &mut [f64], lists: &mut [f64]) -> bool {
+fn fresh_in(desk: &[u64], numbers: &mut [u64], scores: &mut [f64]) -> bool {
+    memory::numbers(desk, numbers, memory::STATE, true);
+    memory::reals(desk, scores, memory::SCORES, true);
+    let answer = fresh(desk, numbers, scores);
+    is_state(desk, numbers, scores) & memory::is_due(desk, answer)
+}
+
+fn step_in(desk: &[u64], numbers: &mut [u64], scores: &mut [f64], lists: &mut [f64]) -> bool {
+    memory::numbers(desk, numbers, memory::STATE, true);
     memory::reals(desk, scores, memory::SCORES, true);
     memory::reals(desk, lists, memory::LISTS, true);
-    let answer = detected(letter, desk, scores, lists);
-    memory::reals(desk, scores, memory::SCORES, false) & memory::is_due(desk, answer)
+    let answer = step(desk, numbers, scores, lists);
+    is_state(desk, numbers, scores) & memory::is_due(desk, answer)
 }
 
-fn detect(letter: u8, desk: &mut [u64]) -> bool {
+fn detect(letter: u8, desk: &[u64]) -> bool {
+    let mut numbers = [0u64; NUMBERS];
     let mut scores = [0.0f64; SCORES];
     let mut lists = [0.0f64; LISTS];
-    detect_in(letter, desk, &mut scores[..], &mut lists[..])
+    if letter == b'F' {
+        return fresh_in(desk, &mut numbers[..], &mut scores[..]);
+    }
+    step_in(desk, &mut numbers[..], &mut scores[..], &mut lists[..])
 }
 
 // The end: how many lines are above it, and their check.

@@ -13,13 +13,10 @@ pub const ENDED: usize = 4;
 
 pub const ROWS: usize = 64;
 
-// The line at hand: the place that the next word goes to, the letter of its call, 1 if something is wrong with it, 1 if a
-// byte of it was read.
+// The line at hand: the place that the next word goes to, the letter of its call, 1 if a byte of it was read.
 pub const AT: usize = 5;
 
 pub const LETTER: usize = 6;
-
-pub const FAULT: usize = 7;
 
 pub const OPEN: usize = 8;
 
@@ -71,13 +68,6 @@ pub fn add_at(desk: &mut [u64], from: usize, i: usize) {
     add(desk, std::num::wrapping_add_usize(from, i));
 }
 
-// The line is no record unless this holds.
-pub fn expect(desk: &mut [u64], is_well: bool) {
-    if !is_well {
-        put(desk, FAULT, 1);
-    }
-}
-
 // A word of the memory: before the call, or as it should be after it.
 pub fn held(desk: &[u64], at: usize, i: usize, is_given: bool) -> u64 {
     let place = std::num::wrapping_add_usize(at, i);
@@ -119,6 +109,6 @@ pub fn begin(desk: &mut [u64]) {
     put(desk, ABOVE, sum);
     put(desk, AT, 0);
     put(desk, LETTER, 0);
-    put(desk, FAULT, 0);
     put(desk, OPEN, 0);
+    add(desk, LINE);
 }

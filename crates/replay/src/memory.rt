@@ -1,10 +1,11 @@
-// The memory that the list edits: one word for each place that is given or lent. Numbers come first, of which those of a
-// state are lent as they stand on the desk. What has another type is lent in lists of its own: they are filled from the memory
-// before the call, and compared with it after the call.
+// The memory that the list edits: one word for each place that is given or lent. What is lent is filled from the memory before
+// the call, and compared with what is due after it.
 use crate::desk;
 use crate::float;
 
-// Where each kind begins, and the end. Numbers: the answer that is due, what is given, from place 16 on those of a state.
+// Where each kind begins, and the end. The answer that is due and the numbers that are given come first.
+pub const STATE: usize = 16;
+
 pub const SCORES: usize = 512;
 
 pub const QUOTIENT: usize = 1023;
@@ -61,13 +62,15 @@ fn below_entry(size: u64) -> i32 {
 }
 
 // A place is given its word, or compared with the word that is due. Whether it holds that.
-fn number(desk: &mut [u64], i: usize, is_given: bool) -> bool {
-    let w = desk::held(desk, 0, i, false);
+fn number(list: &mut [u64], i: usize, w: u64, is_given: bool) -> bool {
+    if list.len() <= i {
+        return false;
+    }
     if is_given {
-        desk::put_at(desk, desk::GIVEN, i, w);
+        list[i] = w;
         return true;
     }
-    desk::word(desk, i) == w
+    list[i] == w
 }
 
 fn sample(list: &mut [u8], i: usize, w: u64, is_given: bool) -> bool {
@@ -114,16 +117,23 @@ fn real(list: &mut [f64], i: usize, w: u64, is_given: bool) -> bool {
     float::same(list[i], w)
 }
 
-// The first places of the memory itself: what is due is given, or compared.
-pub fn numbers(desk: &mut [u64], end: usize, is_given: bool) -> bool {
-    let mut is_same = true;
+// What is due so far is given from here on.
+pub fn settle(desk: &mut [u64], end: usize) {
     for i in 0..end {
-        is_same = is_same & number(desk, i, is_given);
+        let w = desk::held(desk, 0, i, false);
+        desk::put_at(desk, desk::GIVEN, i, w);
+    }
+}
+
+// A list is filled from a place of the memory on, or compared.
+pub fn numbers(desk: &[u64], list: &mut [u64], at: usize, is_given: bool) -> bool {
+    let mut is_same = true;
+    for i in 0..list.len() {
+        is_same = is_same & number(list, i, desk::held(desk, at, i, is_given), is_given);
     }
     is_same
 }
 
-// A list is filled from a place of the memory on, or compared.
 pub fn samples(desk: &[u64], list: &mut [u8], at: usize, is_given: bool) -> bool {
     let mut is_same = true;
     for i in 0..list.len() {

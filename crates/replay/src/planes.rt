@@ -9,129 +9,73 @@ const SAMPLES: usize = 8704;
 
 const COSTS: usize = 64;
 
+// A plane's length and shape.
 struct Shape {
-    len: usize,
-    width: usize,
-    height: usize,
-    stride: usize,
-    origin: usize,
+    n: usize,
+    w: usize,
+    h: usize,
+    s: usize,
+    o: usize,
 }
 
 fn shape_at(desk: &[u64], at: usize) -> Shape {
     Shape {
-        len: len(desk, at),
-        width: len_at(desk, at, 1),
-        height: len_at(desk, at, 2),
-        stride: len_at(desk, at, 3),
-        origin: len_at(desk, at, 4),
+        n: len(desk, at),
+        w: len_at(desk, at, 1),
+        h: len_at(desk, at, 2),
+        s: len_at(desk, at, 3),
+        o: len_at(desk, at, 4),
     }
 }
 
-fn difference(desk: &[u64], first: &[u8], second: &[u8]) -> i64 {
+// The plane difference, or the importance total.
+fn whole(letter: u8, desk: &[u64], first: &[u8], second: &[u8]) -> i64 {
+    let d = half(desk, 1);
     let a = shape_at(desk, 2);
     let b = shape_at(desk, 7);
-    brinepulley::brine_plane_difference(
-        half(desk, 1),
-        parts::samples(first, 0, a.len),
-        a.width,
-        a.height,
-        a.stride,
-        a.origin,
-        parts::samples(second, 0, b.len),
-        b.width,
-        b.height,
-        b.stride,
-        b.origin,
-    )
+    let p = parts::samples(first, 0, a.n);
+    let q = parts::samples(second, 0, b.n);
+    if letter == b'P' {
+        return brinepulley::brine_plane_difference(d, p, a.w, a.h, a.s, a.o, q, b.w, b.h, b.s, b.o);
+    }
+    brinepulley::brine_importance_total(d, p, a.w, a.h, a.s, a.o, q, b.w, b.h, b.s, b.o)
 }
 
-fn total(desk: &[u64], first: &[u8], second: &[u8]) -> i64 {
+// Delta, or the importance.
+fn ratio(letter: u8, desk: &[u64], first: &[u8], second: &[u8], x: &mut f64) -> i64 {
+    let d = half(desk, 1);
     let a = shape_at(desk, 2);
     let b = shape_at(desk, 7);
-    brinepulley::brine_importance_total(
-        half(desk, 1),
-        parts::samples(first, 0, a.len),
-        a.width,
-        a.height,
-        a.stride,
-        a.origin,
-        parts::samples(second, 0, b.len),
-        b.width,
-        b.height,
-        b.stride,
-        b.origin,
-    )
-}
-
-fn delta(desk: &[u64], first: &[u8], second: &[u8], quotient: &mut f64) -> i64 {
-    let a = shape_at(desk, 2);
-    let b = shape_at(desk, 7);
-    brinepulley::brine_delta(
-        half(desk, 1),
-        parts::samples(first, 0, a.len),
-        a.width,
-        a.height,
-        a.stride,
-        a.origin,
-        parts::samples(second, 0, b.len),
-        b.width,
-        b.height,
-        b.stride,
-        b.origin,
-        quotient,
-    )
-}
-
-fn importance(desk: &[u64], first: &[u8], second: &[u8], quotient: &mut f64) -> i64 {
-    let a = shape_at(desk, 2);
-    let b = shape_at(desk, 7);
-    brinepulley::brine_importance(
-        half(desk, 1),
-        parts::samples(first, 0, a.len),
-        a.width,
-        a.height,
-        a.stride,
-        a.origin,
-        parts::samples(second, 0, b.len),
-        b.width,
-        b.height,
-        b.stride,
-        b.origin,
-        quotient,
-    )
+    let p = parts::samples(first, 0, a.n);
+    let q = parts::samples(second, 0, b.n);
+    if letter == b'D' {
+        return brinepulley::brine_delta(d, p, a.w, a.h, a.s, a.o, q, b.w, b.h, b.s, b.o, x);
+    }
+    brinepulley::brine_importance(d, p, a.w, a.h, a.s, a.o, q, b.w, b.h, b.s, b.o, x)
 }
 
 // The second plane is the work plane; then the length of the costs.
 fn intra(desk: &[u64], first: &[u8], second: &mut [u8], costs: &mut [u32]) -> i64 {
+    let d = half(desk, 1);
     let a = shape_at(desk, 2);
     let b = shape_at(desk, 7);
-    brinepulley::brine_intra_costs(
-        half(desk, 1),
-        parts::samples(first, 0, a.len),
-        a.width,
-        a.height,
-        a.stride,
-        a.origin,
-        parts::work(second, 0, b.len),
-        b.width,
-        b.height,
-        b.stride,
-        b.origin,
-        parts::room(costs, 0, len(desk, 12)),
-    )
+    let p = parts::samples(first, 0, a.n);
+    let q = parts::work(second, 0, b.n);
+    let c = parts::room(costs, 0, len(desk, 12));
+    brinepulley::brine_intra_costs(d, p, a.w, a.h, a.s, a.o, q, b.w, b.h, b.s, b.o, c)
 }
 
 // The SATD of the samples of both planes.
 fn satd(desk: &[u64], first: &[u8], second: &[u8]) -> i64 {
-    brinepulley::brine_satd8x8(
-        parts::samples(first, 0, len(desk, 2)),
-        parts::samples(second, 0, len(desk, 7)),
-    )
+    let p = parts::samples(first, 0, len(desk, 2));
+    let q = parts::samples(second, 0, len(desk, 7));
+    brinepulley::brine_satd8x8(p, q)
 }
 
 // How many costs are given, and the count.
-fn threshold(desk: &[u64], costs: &[u32], quotient: &mut f64) -> i64 {
-    brinepulley::brine_threshold(parts::costs(costs, 0, len(desk, 1)), len(desk, 2), quotient)
+fn threshold(desk: &[u64], costs: &[u32], x: &mut f64) -> i64 {
+    let c = parts::costs(costs, 0, len(desk, 1));
+    brinepulley::brine_threshold(c, len(desk, 2), x)
 }
 
 fn call(
@@ -140,16 +84,14 @@ fn call(
     first: &[u8],
     second: &mut [u8],
     costs: &mut [u32],
-    quotient: &mut f64,
+    x: &mut f64,
 ) -> i64 {
     match letter {
-        b'P' => difference(desk, first, second),
-        b'M' => total(desk, first, second),
-        b'D' => delta(desk, first, second, quotient),
-        b'I' => importance(desk, first, second, quotient),
+        b'P' | b'M' => whole(letter, desk, first, second),
+        b'D' | b'I' => ratio(letter, desk, first, second, x),
         b'B' => satd(desk, first, second),
         b'C' => intra(desk, first, second, costs),
-        _ => threshold(desk, costs, quotient),
+        _ => threshold(desk, costs, x),
     }
 }
 
@@ -170,20 +112,14 @@ fn replay_in(
     memory::samples(desk, first, memory::FIRST, true);
     memory::samples(desk, second, memory::SECOND, true);
     memory::costs(desk, costs, memory::COSTS, true);
-    let mut quotient = memory::quotient(desk);
-    let answer = call(letter, desk, first, second, costs, &mut quotient);
-    is_right(desk, second, costs) & memory::is_result(desk, answer, quotient)
+    let mut x = memory::quotient(desk);
+    let answer = call(letter, desk, first, second, costs, &mut x);
+    is_right(desk, second, costs) & memory::is_result(desk, answer, x)
 }
 
 pub fn replay(letter: u8, desk: &[u64]) -> bool {
-    let mut first = [0u8; SAMPLES];
-    let mut second = [0u8; SAMPLES];
+    let mut p = [0u8; SAMPLES];
+    let mut q = [0u8; SAMPLES];
     let mut costs = [0u32; COSTS];
-    replay_in(
-        letter,
-        desk,
-        &mut first[..],
-        &mut second[..],
-        &mut costs[..],
-    )
+    replay_in(letter, desk, &mut p[..], &mut q[..], &mut costs[..])
 }

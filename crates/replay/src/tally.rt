@@ -30,17 +30,14 @@ fn put_letter(letter: usize) {
     put(parts::samples(b"-ABCDEFGHIJKLMNOPQRSTUVWXYZ-----", letter % LETTERS, 1));
 }
 
-// A failure is counted, and the first ones are written out: the line, its letter, the answer that is due.
+// A failure is counted. Of the first ones the letter is written out, and how many lines are above.
 fn fails(desk: &mut [u64]) {
     desk::add(desk, desk::FAILED);
-    if SHOWN < get(desk, desk::FAILED) {
-        return;
+    if get(desk, desk::FAILED) <= SHOWN {
+        put_letter(get(desk, desk::LETTER) as usize);
+        put(b" fails below line ");
+        put_number(get(desk, desk::LINE));
     }
-    put_letter(get(desk, desk::LETTER) as usize);
-    put(b" due ");
-    io::print_hex(OUT, desk::due(desk), 1);
-    put(b" fails behind line ");
-    put_number(get(desk, desk::LINE));
 }
 
 fn row(letter: u64, due: u64) -> usize {
@@ -66,12 +63,12 @@ fn count(desk: &mut [u64]) {
 }
 
 // A line is over: whether the answer and the memory are as they should be.
-pub fn verdict(desk: &mut [u64], is_same: bool) {
-    if is_same & (get(desk, desk::FAULT) == 0) {
+pub fn verdict(desk: &mut [u64], is_right: bool) {
+    if is_right {
         count(desk);
-        return;
+    } else {
+        fails(desk);
     }
-    fails(desk);
 }
 
 // How many passed of a row, if any.

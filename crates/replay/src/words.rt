@@ -15,9 +15,10 @@ const SPACE: u8 = 32;
 
 const DOT: u8 = 46;
 
-// A word has at most so many digits, and may hold this before one more comes.
-const MOST: u64 = 16;
+// No call has this letter.
+const NONE: u64 = 1;
 
+// A word holds what is below this before one more digit comes.
 const FULL: u64 = 1152921504606846976;
 
 // The check of the list: a prime, and what the check is multiplied by for each byte. A changed byte always changes it.
@@ -33,19 +34,11 @@ fn wide(b: u8) -> u64
 
 // The value of a hex digit; 16 for any other byte.
 fn digit(b: u8) -> u64 {
-    if b < 48 {
-        return 16;
+    match b {
+        b'0'..=b'9' => (b - b'0') as u64,
+        b'a'..=b'f' => (b - b'a') as u64 + 10,
+        _ => 16,
     }
-    if b < 58 {
-        return (b - 48) as u64;
-    }
-    if b < 97 {
-        return 16;
-    }
-    if b < 103 {
-        return (b - 87) as u64;
-    }
-    16
 }
 
 fn check(desk: &mut [u64], b: u8) {
@@ -63,8 +56,6 @@ fn put_digit(desk: &mut [u64], d: u64) {
 // The number so far, of which a word begins anew.
 fn taken(desk: &mut [u64]) -> u64 {
     let n = get(desk, desk::VALUE);
-    let digits = get(desk, desk::DIGITS);
-    desk::expect(desk, (0 < digits) & (digits <= MOST));
     put(desk, desk::VALUE, 0);
     put(desk, desk::DIGITS, 0);
     n
@@ -73,7 +64,6 @@ fn taken(desk: &mut [u64]) -> u64 {
 // The number so far says how many words are copied.
 fn put_copies(desk: &mut [u64]) {
     let n = taken(desk);
-    desk::expect(desk, n <= memory::END as u64);
     put(desk, desk::COPIES, n % memory::END as u64);
 }
 
@@ -110,23 +100,21 @@ fn end_word(desk: &mut [u64]) {
     copy(desk, w as usize, copies);
 }
 
-// A line has one letter, and stands above the end.
+// A line has one letter, and stands above the end. Any other letter is none.
 fn put_letter(desk: &mut [u64], b: u8) {
     let is_first = (get(desk, desk::LETTER) == 0) & (get(desk, desk::ENDED) == 0);
-    desk::expect(desk, is_first);
-    put(desk, desk::LETTER, wide(b));
+    let letter = if is_first { wide(b) } else { NONE };
+    put(desk, desk::LETTER, letter);
     put(desk, desk::AT, 0);
 }
 
-// The line is over: the call is made. What is due was written so far, and is given from here on.
+// The line is over: the call is made.
 fn end_line(desk: &mut [u64]) {
     let letter = (get(desk, desk::LETTER) % 256) as u8;
     let is_right = calls::replay(letter, desk);
-    let is_same = memory::numbers(desk, memory::SCORES, false);
-    tally::verdict(desk, is_right & is_same);
-    desk::add(desk, desk::LINE);
+    tally::verdict(desk, is_right);
     let at = get(desk, desk::AT) as usize;
-    memory::numbers(desk, at, true);
+    memory::settle(desk, at);
     desk::begin(desk);
 }
 

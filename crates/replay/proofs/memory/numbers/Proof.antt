@@ -1,4 +1,4 @@
--- `replay::memory::numbers` is safe and ends. The desk keeps its length. The measure is how many places are left. Assumes nothing.
+-- `replay::memory::numbers` is safe and ends. The list keeps its length. The measure is how many places are left. Assumes nothing.
 use mathlib.Core.Path.{_≡_}
 use Prim.Native.Nat.{_-_}
 use lib.ListN.{length}
@@ -7,13 +7,16 @@ use Rattle.replay.proofs.memory.numbers.Statement.{statement}
 use Rattle.replay.proofs.memory.numbers.Tie as tie
 
 abbrev Inv-loop : tie.InvT-loop
-Inv-loop desk₀ end is-given is-same₀ i₀ desk is-same i = (length desk ≡ length desk₀)
+Inv-loop desk list₀ at is-given is-same₀ i₀ i-end list is-same i = (i-end ≡ length list₀) × (length list ≡ length list₀)
 
 abbrev μ-loop : tie.MeasureT-loop
-μ-loop desk₀ end is-given is-same₀ i₀ desk is-same i = end - i
+μ-loop desk list₀ at is-given is-same₀ i₀ i-end list is-same i = i-end - i
 
 loop-holds : tie.Need-loop-holds Inv-loop μ-loop
 loop-holds c = search needs
+
+held-requires : tie.Need-held-requires Inv-loop μ-loop
+held-requires c κs = search needs
 
 number-requires : tie.Need-number-requires Inv-loop μ-loop
 number-requires c κs = search needs
@@ -40,6 +43,7 @@ numbers-spec =
     Inv-loop
     μ-loop
     loop-holds
+    held-requires
     number-requires
     add-i
     loop-less
