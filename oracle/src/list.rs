@@ -6,7 +6,7 @@ use crate::list_cases;
 use crate::measures_reading::{Lent, intra_fault};
 use crate::plane_cases::{depth, hurt_one, intra_of, pair_of, shaped};
 use crate::random::Random;
-use crate::reading::{self, Call, SCORES, STANDARD, State};
+use crate::reading::{self, Call, ROOM, SCORES, STANDARD, State};
 
 /// How often each measure is drawn; some are refused. How many calls the crate answers.
 const MEASURES: u64 = 150;
@@ -101,29 +101,26 @@ fn refused(desk: &mut Desk, (s, c): (State, Call), due: u32) {
     damage::refused(desk, LENGTHS, &s, &c, due);
 }
 
-/// States for which 11 is due: 16 entries are too many, also without lookahead; with none the offset is A.
+/// States for which 11 is due: as many entries as there is room for are too many, also without lookahead; with none the
+/// offset is A.
 fn refused_states(desk: &mut Desk) {
-    for (lookahead, count) in [(0, 16), (5, 0)] {
-        refused(desk, standard(lookahead, 0, 0, count), 11);
+    for (lookahead, count) in [(0, ROOM), (5, 0)] {
+        refused(desk, standard(lookahead, 0, 0, count as u64), 11);
     }
 }
 
 /// Calls with two faults, of which the first is due, in the order 11, 7, 8, 9, 10.
 fn orders_of_steps(desk: &mut Desk) {
-    let of = |s: (State, Call), change: fn(&mut Call)| {
-        let (s, mut c) = s;
-        change(&mut c);
-        (s, c)
+    let changed = |mut call: (State, Call), change: fn(&mut Call)| {
+        change(&mut call.1);
+        call
     };
-    refused(desk, of(standard(0, 4, 2, 16), |c| c.frame = 0), 11);
-    refused(desk, of(standard(0, 4, 2, 0), |c| (c.frame, c.set) = (0, 17)), 7);
+    refused(desk, changed(standard(0, 4, 2, ROOM as u64), |c| c.frame = 0), 11);
+    refused(desk, changed(standard(0, 4, 2, 0), |c| (c.frame, c.set) = (0, u64::MAX)), 7);
     // One frame after an accepted set of none.
-    let lists = |c: &mut Call| [&mut c.inter, &mut c.importance, &mut c.threshold].map(Vec::clear);
-    let (s, mut c) = standard(0, 4, 0, 0);
-    lists(&mut c);
-    c.set = 1;
-    refused(desk, (s, c), 8);
-    refused(desk, of(standard(0, 4, 2, 0), |c| c.set = 1), 9);
+    let alone = |c: &mut Call| *c = Call { set: 1, inter: vec![], importance: vec![], threshold: vec![], ..*c };
+    refused(desk, changed(standard(0, 4, 0, 0), alone), 8);
+    refused(desk, changed(standard(0, 4, 2, 0), |c| c.set = 1), 9);
 }
 
 /// The same of planes: 5, then 1 and 2 of the first, 1 and 2 of the second, 3, 4; and of lists: 2, 10.

@@ -18,19 +18,19 @@ pub const AT: usize = 5;
 
 pub const LETTER: usize = 6;
 
-pub const OPEN: usize = 8;
+pub const OPEN: usize = 7;
 
 // The word at hand: how many digits it has, their value, how many words it is to copy.
-pub const DIGITS: usize = 9;
+pub const DIGITS: usize = 8;
 
-pub const VALUE: usize = 10;
+pub const VALUE: usize = 9;
 
-pub const COPIES: usize = 11;
+pub const COPIES: usize = 10;
 
 // The check of all bytes so far, and of those above the line.
-pub const SUM: usize = 12;
+pub const SUM: usize = 11;
 
-pub const ABOVE: usize = 13;
+pub const ABOVE: usize = 12;
 
 // The memory before the call, and as it should be after it.
 pub const GIVEN: usize = 128;

@@ -8,13 +8,16 @@ const OUT: i32 = 1;
 // No more failures than these are written out.
 const SHOWN: u64 = 20;
 
-// Calls are counted in rows: by their letter, of which one refused is by its number behind them.
+// Calls are counted in rows: accepted ones by their letter, refused ones behind them by their number.
 const LETTERS: usize = 32;
 
 const ROWS: usize = 48;
 
 // Answers from here on are refusals.
 const NEGATIVE: u64 = 9223372036854775808;
+
+// The letter of a step, N.
+const STEP: u64 = 78;
 
 fn put(text: &[u8]) {
     io::write_all(OUT, text);
@@ -49,7 +52,7 @@ fn row(letter: u64, due: u64) -> usize {
 
 // Cuts are answers of the detector with the lowest bit.
 fn count_cut(desk: &mut [u64], letter: u64, due: u64) {
-    if (letter == 78) & (due < NEGATIVE) & (due % 2 == 1) {
+    if (letter == STEP) & (due < NEGATIVE) & (due % 2 == 1) {
         desk::add(desk, desk::CUTS);
     }
 }

@@ -16,7 +16,7 @@ const SPACE: u8 = 32;
 const DOT: u8 = 46;
 
 // No call has this letter.
-const NONE: u64 = 1;
+const NONE: u64 = 32;
 
 // A word holds what is below this before one more digit comes.
 const FULL: u64 = 1152921504606846976;
@@ -53,7 +53,7 @@ fn put_digit(desk: &mut [u64], d: u64) {
     desk::add(desk, desk::DIGITS);
 }
 
-// The number so far, of which a word begins anew.
+// The number so far. The next digit begins another.
 fn taken(desk: &mut [u64]) -> u64 {
     let n = get(desk, desk::VALUE);
     put(desk, desk::VALUE, 0);
