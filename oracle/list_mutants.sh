@@ -13,7 +13,7 @@ for name in ${MUTANTS:-$(sed -n 's/^name: //p' "$here/mutants.txt")}; do
     MUTANT=$name "$here/build.sh" mutant "$out" >"$out.log" 2>&1 || { cat "$out.log" >&2; exit 2; }
     # The crate and the reading differ where only one of them has the mutant: that is no reason to stop here.
     "$out/oracle" list "$seed" >"$out.list" 2>"$out.log" || true
-    if ! tail -n 1 "$out.list" | grep -q '^E '; then
+    if ! tail -n 1 "$out.list" | grep -q ' E$'; then
         stops=$((stops + 1)); echo "$name: makes no list"
     elif cmp -s "$out.list" "$list"; then
         echo "$name: makes the same list"

@@ -4,14 +4,13 @@ use crate::desk::{Desk, LENGTHS, put_state};
 use crate::detector_cases;
 use crate::edges;
 use crate::list_cases;
-use crate::measures_reading::Lent;
-use crate::picture::Picture;
+use crate::measures_reading::{Lent, intra_fault};
 use crate::plane_cases::{depth, hurt_one, intra_of, pair_of, shaped};
 use crate::random::Random;
-use crate::reading::{self, Call, SCORES, STANDARD, State};
+use crate::reading::{self, Call, ROOM, SCORES, STANDARD, State};
 
 /// How often each measure is drawn; some are refused. How many calls the crate answers.
-const MEASURES: u64 = 250;
+const MEASURES: u64 = 150;
 const CALLS: u64 = 2_000;
 
 fn sides(r: &mut Random) -> (u64, u64) {
@@ -21,30 +20,26 @@ fn sides(r: &mut Random) -> (u64, u64) {
     (r.of(&[8, 9, 15, 16, 17, 23, 24, 25, 26]), r.of(&[8, 9, 15, 16, 17, 20]))
 }
 
-fn picture(r: &mut Random) -> Picture {
-    let base = r.below(256) as i64;
-    // All samples, one, the first and the last, a few near each other, two that differ by 1.
+/// All samples, one, the first and the last, a few near each other, two that differ by 1.
+fn samples(r: &mut Random, len: usize) -> Vec<u8> {
+    let base = r.below(256);
     let (low, span) = r.of(&[(0, 256), (base, 1), (255, 2), (base, 4), (base, 2), (0, 2)]);
-    Picture { low, span, seed: r.below(1 << 31) }
+    (0..len).map(|_| (low + r.below(span)) as u8).collect()
 }
 
-/// A plane of these sides, drawn from a picture.
-fn plane(r: &mut Random, (width, height): (u64, u64), picture: Picture) -> Lent {
-    let (mut l, len) = shaped(r, width, height);
-    l.samples = picture.samples(len);
-    l
-}
-
-fn planes(desk: &mut Desk, r: &mut Random, pictures: [Picture; 2]) -> (Lent, Lent) {
-    let sides = sides(r);
-    desk.out.drawn(pictures);
-    (plane(r, sides, pictures[0]), plane(r, sides, pictures[1]))
+fn planes(r: &mut Random) -> (Lent, Lent) {
+    let (width, height) = sides(r);
+    let plane = |r: &mut Random| {
+        let (mut l, len) = shaped(r, width, height);
+        l.samples = samples(r, len);
+        l
+    };
+    (plane(r), plane(r))
 }
 
 fn pair(desk: &mut Desk, r: &mut Random) {
-    let (first, other, is_near) = (picture(r), picture(r), r.once_in(5));
-    let (mut a, mut b) = planes(desk, r, [first, if is_near { first } else { other }]);
-    if is_near {
+    let (mut a, mut b) = planes(r);
+    if r.once_in(5) {
         // Two planes that differ in one sample.
         b = a.clone();
         let at = r.below(b.samples.len() as u64) as usize;
@@ -57,8 +52,7 @@ fn pair(desk: &mut Desk, r: &mut Random) {
 }
 
 fn intra(desk: &mut Desk, r: &mut Random) {
-    let pictures = [picture(r), picture(r)];
-    let (mut a, mut work) = planes(desk, r, pictures);
+    let (mut a, mut work) = planes(r);
     let blocks = a.blocks();
     while r.once_in(6) {
         hurt_one(r, &mut a, &mut work);
@@ -69,9 +63,7 @@ fn intra(desk: &mut Desk, r: &mut Random) {
 }
 
 fn satd(desk: &mut Desk, r: &mut Random) {
-    let pictures = [picture(r), if r.once_in(4) { Picture::flat(r.of(&[0, 128, 255])) } else { picture(r) }];
-    desk.out.drawn(pictures);
-    let mut lists = pictures.map(|p| p.samples(64));
+    let mut lists = [samples(r, 64), if r.once_in(4) { vec![r.of(&[0, 128, 255]); 64] } else { samples(r, 64) }];
     if r.once_in(15) {
         let which = r.below(2) as usize;
         lists[which].resize(r.of(&[0, 16, 63, 65, 128]), 0);
@@ -82,11 +74,9 @@ fn satd(desk: &mut Desk, r: &mut Random) {
 fn hadamard(desk: &mut Desk, r: &mut Random, side: usize) {
     let edge = 65_535;
     let (low, span) = r.of(&[(-edge, 131_071), (-edge, 1), (edge, 1), (-255, 511), (-1, 3)]);
-    let picture = Picture { low, span, seed: r.below(1 << 31) };
-    desk.out.drawn([picture; 2]);
-    let mut list = picture.entries(side * side);
+    let mut list: Vec<i32> = (0..side * side).map(|_| low + r.below(span) as i32).collect();
     if r.once_in(5) {
-        list.iter_mut().for_each(|x| *x = r.of(&[edge, -edge]) as i32);
+        list.iter_mut().for_each(|x| *x = r.of(&[edge, -edge]));
     }
     if r.once_in(12) {
         let at = r.below(list.len() as u64) as usize;
@@ -98,21 +88,73 @@ fn hadamard(desk: &mut Desk, r: &mut Random, side: usize) {
     list_cases::hadamard_of(desk, &list, side);
 }
 
-/// States for which 11 is due, whatever the seed draws: 16 entries are too many, also without lookahead; with none the offset
-/// is A.
-fn refused_states(desk: &mut Desk) {
+/// A state of a Standard detector, and a call that it accepts.
+fn standard(lookahead: u64, last: u64, length: u64, count: u64) -> (State, Call) {
+    let numbers = [64, 64, 8, lookahead, STANDARD, 0, 1000, 0, last, length, last, last, count];
     let one = || vec![1.0];
-    let c = Call { set: 2, frame: 1, previous: 0, inter: one(), importance: one(), threshold: one() };
-    for (lookahead, count) in [(0, 16), (5, 0)] {
-        let s = State { numbers: [64, 64, 8, lookahead, STANDARD, 0, 1000, 0, 0, 0, 0, 0, count], places: [1.0; SCORES] };
-        put_state(desk, &s);
-        damage::refused(desk, LENGTHS, &s, &c, reading::step_fault(LENGTHS, &s, &c));
+    let c = Call { set: 2, frame: last + 1, previous: 0, inter: one(), importance: one(), threshold: one() };
+    (State { numbers, places: [1.0; SCORES] }, c)
+}
+
+/// The reading is asked all the same, so that a mutant of it makes a list, which is wrong here.
+fn refused(desk: &mut Desk, (s, c): (State, Call), due: u32) {
+    let fault = reading::step_fault(LENGTHS, &s, &c);
+    is_due(desk, fault == due);
+    put_state(desk, &s);
+    damage::refused(desk, LENGTHS, &s, &c, fault);
+}
+
+fn is_due(desk: &mut Desk, is_due: bool) {
+    if !is_due {
+        desk.tally.differs("another refusal is due");
     }
+}
+
+/// States for which 11 is due: as many entries as there is room for are too many, also without lookahead; with none the
+/// offset is A.
+fn refused_states(desk: &mut Desk) {
+    for (lookahead, count) in [(0, ROOM), (5, 0)] {
+        refused(desk, standard(lookahead, 0, 0, count as u64), 11);
+    }
+}
+
+/// Calls with two faults, of which the first is due, in the order 11, 7, 8, 9, 10.
+fn orders_of_steps(desk: &mut Desk) {
+    let changed = |mut call: (State, Call), change: fn(&mut Call)| {
+        change(&mut call.1);
+        call
+    };
+    refused(desk, changed(standard(0, 4, 2, ROOM as u64), |c| c.frame = 0), 11);
+    refused(desk, changed(standard(0, 4, 2, 0), |c| (c.frame, c.set) = (0, u64::MAX)), 7);
+    // One frame after an accepted set of none.
+    let alone = |c: &mut Call| *c = Call { set: 1, inter: vec![], importance: vec![], threshold: vec![], ..*c };
+    refused(desk, changed(standard(0, 4, 0, 0), alone), 8);
+    refused(desk, changed(standard(0, 4, 2, 0), |c| c.set = 1), 9);
+}
+
+/// The same of planes: 5, then 1 and 2 of the first, 1 and 2 of the second, 3, 4; and of lists: 2, 10.
+fn orders_of_measures(desk: &mut Desk) {
+    let plane = |width: u64, samples: usize| Lent { samples: vec![3; samples], width, height: 8, stride: 9, origin: 0 };
+    let sound = plane(8, 72);
+    for (depth, a, b, costs, due) in [
+        (9, plane(0, 72), sound.clone(), 1, 5),
+        (8, plane(8, 70), plane(0, 72), 1, 2),
+        (8, plane(0, 72), plane(8, 70), 1, 1),
+        (8, sound.clone(), plane(9, 71), 1, 2),
+        (8, sound.clone(), plane(9, 72), 0, 3),
+    ] {
+        is_due(desk, intra_fault(depth, &a, &b, costs) == due);
+        pair_of(desk, depth, &a, &b);
+        intra_of(desk, depth, &a, &b, &vec![7; costs]);
+    }
+    list_cases::hadamard_of(desk, &[65_536; 15], 4);
 }
 
 pub fn all(desk: &mut Desk, r: &mut Random) {
     edges::all(desk);
     refused_states(desk);
+    orders_of_steps(desk);
+    orders_of_measures(desk);
     for _ in 0..MEASURES {
         list_cases::scale(desk, r);
         pair(desk, r);

@@ -1,299 +1,157 @@
-//! The fixed list: the records of the stream as lines of text, for crates/replay to read. A line is a letter and words in
-//! hex. Floats stand by their bits, with a dot before them where zeros at the right end are left off; every NaN is one.
-use crate::picture::{Picture, nearest};
-use crate::pool::Pool;
-use crate::reading::{COUNT, NUMBERS, OFFSET, SCORES};
-use crate::stream::Kind;
+//! The fixed list: the records of the stream as lines of text, for crates/replay to read. A line is what is given, the
+//! letter of a call, and what should stand in the memory after it. Every NaN is written as one.
+use crate::kind::Kind;
+use crate::memory::{COSTS, ENTRIES, FIRST, LIST, LISTS, Memory, QUOTIENT, SCORES, SECOND, STATE};
+use crate::reading::{COUNT, NUMBERS, OFFSET, ROOM};
 use crate::words::{Reader, bits};
 
-const HEAD: &str = "\
-# The fixed list: calls and measures with the answers of av-scenechange 0.24.1. `make -C oracle list` makes it.
-# Numbers are in hex; .x is a float by its bits, zeros at the right end left off; -x is negative, or a refusal.
-# P plane: which, width, height, stride, origin, length, low, span, seed, then places and samples that differ from these
-# D of the two planes: depth, difference, importance total, answer of the other two, delta, importance
-# I intra costs, the second plane being the work plane: depth, room, costs before, answer, costs after, runs that were written
-# B SATD of the two planes' samples: answer     S scale factor: width, height, mode, answer
-# T threshold: count, answer, value, costs      H transform: side, low, span, seed, length, how many differ, these, answer, after
-# W the state is changed: places and words      V measures of pairs, put into the pool: place, three for each pair
-# F fresh detector: settings, lengths, answer, changes of the state
-# C step: lengths, L, n, p, pair at which the lists start, their lengths, answer, new entries, count, changes of the state
-# E end: how many lines are above, their check
-";
-
-/// What a place for a float holds before a call.
-const BEFORE: f64 = 12345.5;
+/// What a place for a quotient holds before a call: the bits of a float that no call answers.
+const BEFORE: [u64; 1] = [5];
 const ENTRY: usize = 5;
-/// The most words of a line.
-const WORDS: usize = 512;
-
-/// The 13 numbers of a state, and the bits of its 80 doubles.
-type Words = [u64; NUMBERS + SCORES];
 
 pub struct Paper {
     text: String,
-    line: String,
-    /// The state as the lines so far leave it, and one that the next call is to find.
-    state: Words,
-    given: Option<Words>,
-    pool: Pool,
-    /// What the next planes or entries were drawn from.
-    pub pictures: [Picture; 2],
+    memory: Memory,
+    /// A state that the next step is to find: its numbers and its floats.
+    given: Option<[Vec<u64>; 2]>,
 }
 
 impl Paper {
     pub fn new() -> Self {
-        let (state, given, pool) = ([0; NUMBERS + SCORES], None, Pool::new());
-        Paper { text: HEAD.into(), line: String::new(), state, given, pool, pictures: [Picture::flat(0); 2] }
-    }
-
-    fn word(&mut self, w: u64) -> &mut Self {
-        self.line += &format!(" {w:x}");
-        self
-    }
-
-    fn words(&mut self, list: &[u64]) -> &mut Self {
-        for &w in list {
-            self.word(w);
-        }
-        self
-    }
-
-    fn signed(&mut self, x: i64) -> &mut Self {
-        self.line += if x < 0 { " -" } else { " " };
-        self.line += &format!("{:x}", x.unsigned_abs());
-        self
-    }
-
-    /// A float by its bits: from the left or from the right, whichever is shorter.
-    fn real(&mut self, w: u64) -> &mut Self {
-        let (left, right) = (format!("{w:016x}"), format!("{w:x}"));
-        let left = left.trim_end_matches('0');
-        self.line += &if left.len() + 1 < right.len() { format!(" .{left}") } else { format!(" {right}") };
-        self
-    }
-
-    fn end(&mut self, letter: char) {
-        assert!(self.line.split(' ').count() <= WORDS, "a record that the reader has no room for");
-        self.text.push(letter);
-        self.text += &self.line;
-        self.text.push('\n');
-        self.line.clear();
+        Paper { text: String::new(), memory: Memory::new(), given: None }
     }
 
     pub fn record(&mut self, kind: Kind, words: &[u64]) {
         let mut r = Reader(words);
         match kind {
-            Kind::Scale => self.words(&r.words(3)).signed(r.word() as i64).end('S'),
+            Kind::Scale => {
+                let sides = r.words(3);
+                self.call('S', r.word(), &sides, &[]);
+            }
             Kind::Planes => self.planes(&mut r),
             Kind::Intra => self.intra(&mut r),
             Kind::Threshold => self.threshold(&mut r),
             Kind::Hadamard => self.hadamard(&mut r),
             Kind::Satd => self.satd(&mut r),
             Kind::Fresh => self.fresh(&mut r),
-            Kind::State => self.given = Some(given(&mut r)),
+            Kind::State => self.given = Some([r.words(NUMBERS), r.reals()]),
             Kind::Step => self.step(&mut r),
             Kind::End | Kind::Film => (),
         }
         assert!(matches!(kind, Kind::End | Kind::Film) || r.0.is_empty());
     }
 
-    /// A plane of so many samples, and its samples.
-    fn plane(&mut self, which: usize, shape: &[u64], samples: &[u8]) {
-        let flat = Picture::flat(i64::from(samples.first().copied().unwrap_or(0)));
-        let (p, differ) = nearest(samples, [self.pictures[which], flat], Picture::samples);
-        self.word(which as u64).words(shape).word(samples.len() as u64);
-        self.signed(p.low).word(p.span).word(p.seed);
-        for &(at, x) in &differ {
-            self.word(at as u64).word(u64::from(x));
+    fn put(&mut self, at: usize, words: &[u64]) {
+        self.memory.put(at, words);
+    }
+
+    /// A line: the answer that is due and the numbers that are given, with what was put; the call; what it writes.
+    fn call(&mut self, letter: char, answer: u64, numbers: &[u64], written: &[(usize, &[u64])]) {
+        self.put(0, &[&[answer], numbers].concat());
+        let given = self.memory.edits();
+        for &(at, words) in written {
+            self.put(at, words);
         }
-        self.end('P');
+        let line = format!("{given}{letter} {}", self.memory.edits());
+        self.text += line.trim_end();
+        self.text.push('\n');
+    }
+
+    /// A plane's samples are put. Its length, and its width, height, stride and origin.
+    fn plane(&mut self, at: usize, r: &mut Reader) -> Vec<u64> {
+        let (shape, samples) = (r.words(4), r.bytes());
+        self.put(at, &samples);
+        [vec![samples.len() as u64], shape].concat()
     }
 
     fn planes(&mut self, r: &mut Reader) {
-        let depth = r.word();
-        for which in 0..2 {
-            let shape = r.words(4);
-            self.plane(which, &shape, &r.bytes());
-        }
+        let depth = r.words(1);
+        let numbers = [depth, self.plane(FIRST, r), self.plane(SECOND, r)].concat();
         let answers = r.words(4);
-        let reals = r.words(2).iter().map(|&w| bits(w)).collect::<Vec<_>>();
-        assert!(answers[2] == answers[3]);
-        let is_refused = (answers[2] as i64) < 0;
-        self.word(depth);
-        for &a in &answers[..3] {
-            self.signed(a as i64);
-        }
-        for &w in &reals {
-            self.real(if is_refused { BEFORE.to_bits() } else { w });
-        }
-        self.end('D');
+        let quotients = r.words(2);
+        self.call('P', answers[0], &numbers, &[]);
+        self.call('M', answers[1], &numbers, &[]);
+        self.quotient('D', answers[2], &numbers, quotients[0]);
+        self.quotient('I', answers[3], &numbers, quotients[1]);
+    }
+
+    /// A call that writes a quotient where it is not refused.
+    fn quotient(&mut self, letter: char, answer: u64, numbers: &[u64], quotient: u64) {
+        self.put(QUOTIENT, &BEFORE);
+        let is_refused = (answer as i64) < 0;
+        let after = if is_refused { BEFORE } else { [bits(quotient)] };
+        self.call(letter, answer, numbers, &[(QUOTIENT, &after)]);
     }
 
     fn intra(&mut self, r: &mut Reader) {
-        let depth = r.word();
-        let a = r.words(4);
-        self.plane(0, &a, &r.bytes());
-        let (shape, work) = (r.words(4), r.bytes());
-        self.plane(1, &shape, &work);
-        let (room, answer, after, costs) = (r.halves(), r.word(), r.bytes(), r.halves());
-        let before = room.first().copied().unwrap_or(0);
-        assert!(room.iter().all(|&x| x == before));
-        self.word(depth).word(room.len() as u64).word(u64::from(before)).signed(answer as i64);
-        for &x in &costs {
-            self.word(u64::from(x));
-        }
-        for (at, count, value) in runs(&work, &after) {
-            self.word(at).word(count).word(value);
-        }
-        self.end('I');
+        let depth = r.words(1);
+        let (first, work, room) = (self.plane(FIRST, r), self.plane(SECOND, r), r.halves());
+        self.put(COSTS, &room);
+        let numbers = [depth, first, work, vec![room.len() as u64]].concat();
+        let (answer, after, costs) = (r.word(), r.bytes(), r.halves());
+        self.call('C', answer, &numbers, &[(COSTS, &costs), (SECOND, &after)]);
     }
 
+    /// Lengths stand where those of planes do.
     fn satd(&mut self, r: &mut Reader) {
-        for which in 0..2 {
-            self.plane(which, &[8, 8, 8, 0], &r.bytes());
-        }
-        self.signed(r.word() as i64).end('B');
+        let (first, second) = (r.bytes(), r.bytes());
+        self.put(FIRST, &first);
+        self.put(SECOND, &second);
+        let numbers = [0, first.len() as u64, 8, 8, 8, 0, second.len() as u64];
+        self.call('B', r.word(), &numbers, &[]);
     }
 
     fn threshold(&mut self, r: &mut Reader) {
-        let (costs, count, answer, value) = (r.halves(), r.word(), r.word() as i64, bits(r.word()));
-        self.word(count).signed(answer).real(if answer < 0 { BEFORE.to_bits() } else { value });
-        for &x in &costs {
-            self.word(u64::from(x));
-        }
-        self.end('T');
+        let (costs, count, answer, value) = (r.halves(), r.word(), r.word(), r.word());
+        self.put(COSTS, &costs);
+        self.quotient('T', answer, &[costs.len() as u64, count], value);
     }
 
     fn hadamard(&mut self, r: &mut Reader) {
-        let signed = |list: Vec<u32>| -> Vec<i32> { list.iter().map(|&x| x as i32).collect() };
+        let signed = |list: Vec<u64>| -> Vec<u64> { list.iter().map(|&x| x as i32 as u64).collect() };
         let (side, list, answer, after) = (r.word(), signed(r.halves()), r.word(), signed(r.halves()));
-        let flat = Picture::flat(i64::from(list.first().copied().unwrap_or(0)));
-        let (p, differ) = nearest(&list, [self.pictures[0], flat], Picture::entries);
-        self.word(side).signed(p.low).word(p.span).word(p.seed).word(list.len() as u64).word(differ.len() as u64);
-        for &(at, x) in &differ {
-            self.word(at as u64).signed(i64::from(x));
-        }
-        self.signed(answer as i64);
-        for &x in &after {
-            self.signed(i64::from(x));
-        }
-        self.end('H');
-    }
-
-    /// Places of the state that are to change, and their words.
-    fn changes(&mut self, after: &Words, but: Option<usize>) {
-        for i in (0..after.len()).filter(|&i| Some(i) != but) {
-            if after[i] != self.state[i] {
-                self.word(i as u64);
-                if i < NUMBERS { self.word(after[i]) } else { self.real(after[i]) };
-            }
-        }
-        self.state = *after;
+        self.put(ENTRIES, &list);
+        let letter = if side == 4 { 'H' } else { 'G' };
+        self.call(letter, answer, &[list.len() as u64], &[(ENTRIES, &after)]);
     }
 
     /// A fresh detector is made over what stands there.
     fn fresh(&mut self, r: &mut Reader) {
         self.given = None;
-        let (settings, answer, numbers) = (r.words(9), r.word() as i64, r.words(NUMBERS));
-        self.words(&settings).signed(answer);
-        if answer == 0 {
-            let mut after = self.state;
-            after[..NUMBERS].copy_from_slice(&numbers);
-            self.changes(&after, None);
-        }
-        self.end('F');
+        let (settings, answer, numbers) = (r.words(9), r.word(), r.words(NUMBERS));
+        let written = [(STATE, &numbers[..])];
+        self.call('F', answer, &settings, if answer == 0 { &written } else { &[] });
     }
 
+    /// The places behind the entries of a state stay as they are.
     fn step(&mut self, r: &mut Reader) {
-        if let Some(given) = self.given.take() {
-            self.put_state(&given);
+        if let Some([numbers, floats]) = self.given.take() {
+            let entries = numbers[COUNT].min(ROOM as u64) as usize;
+            self.put(STATE, &numbers);
+            self.put(SCORES, &floats[..entries * ENTRY]);
         }
-        let call = r.words(5);
-        let lists = [r.reals(), r.reals(), r.reals()];
-        let answer = r.word() as i64;
-        let start = self.put_measures(&lists, answer >= 0);
-        self.words(&call).word(start as u64).words(&lists.each_ref().map(|l| l.len() as u64));
-        self.signed(answer);
-        if answer >= 0 {
-            self.stepped(r);
+        let (call, lists) = (r.words(5), [r.reals(), r.reals(), r.reals()]);
+        for (k, list) in lists.iter().enumerate() {
+            assert!(list.len() <= LIST, "a list that the reader has no room for");
+            self.put(LISTS + k * LIST, list);
         }
-        self.end('C');
-    }
-
-    /// Where a call's lists start in the pool, once the measures that it lacks are put there.
-    fn put_measures(&mut self, lists: &[Vec<u64>; 3], is_accepted: bool) -> usize {
-        let put = self.pool.put(lists, is_accepted);
-        if !put.new.is_empty() {
-            self.word(3 * put.at as u64);
-            for &w in put.new.as_flattened() {
-                self.real(w);
-            }
-            self.end('V');
+        let numbers = [call, lists.iter().map(|l| l.len() as u64).collect()].concat();
+        let answer = r.word();
+        if (answer as i64) < 0 {
+            return self.call('N', answer, &numbers, &[]);
         }
-        put.start
-    }
-
-    /// The state that a call is to find. The places behind its entries stay as they are.
-    fn put_state(&mut self, given: &Words) {
-        let mut after = self.state;
-        let entries = (given[COUNT] as usize).min(SCORES / ENTRY);
-        let end = NUMBERS + entries * ENTRY;
-        after[..end].copy_from_slice(&given[..end]);
-        if after != self.state {
-            self.changes(&after, None);
-            self.end('W');
-        }
-    }
-
-    /// The state after an accepted call: the entries move back by as many as leaves the fewest changes.
-    fn stepped(&mut self, r: &mut Reader) {
-        let (numbers, entries, score) = (r.words(NUMBERS), r.reals(), r.reals());
-        let mut after = self.state;
-        after[..NUMBERS].copy_from_slice(&numbers);
-        after[NUMBERS..NUMBERS + entries.len()].copy_from_slice(&entries);
+        let (after, entries, score) = (r.words(NUMBERS), r.reals(), r.reals());
         // The score that the crate gives is the entry at the offset.
-        let at = NUMBERS + after[OFFSET] as usize * ENTRY;
-        assert!(score.is_empty() || score == after[at..at + ENTRY]);
-        let moved = |by: usize| {
-            let mut s = self.state;
-            let (back, end) = (NUMBERS + by * ENTRY, NUMBERS + entries.len());
-            if back < end {
-                s.copy_within(NUMBERS..NUMBERS + end - back, back);
-            }
-            s
-        };
-        let different = |s: &Words| s.iter().zip(&after).filter(|(a, b)| a != b).count();
-        let by = (0..=entries.len() / ENTRY).min_by_key(|&by| different(&moved(by))).unwrap();
-        self.state = moved(by);
-        self.word(by as u64).word(numbers[COUNT]);
-        self.changes(&after, Some(COUNT));
+        let at = after[OFFSET] as usize * ENTRY;
+        assert!(score.is_empty() || score == entries[at..at + ENTRY]);
+        self.call('N', answer, &numbers, &[(STATE, &after), (SCORES, &entries)]);
     }
 
-    /// The whole list.
+    /// The whole list. Its end says how many lines are above it, and their check.
     pub fn finish(&mut self) -> &str {
         let check = self.text.bytes().fold(0, |sum, b| (sum * 257 + u64::from(b)) % 0x7fff_ffff);
-        self.word(self.text.lines().count() as u64).word(check).end('E');
+        let lines = self.text.lines().count() as u64;
+        self.call('E', 0, &[lines, check], &[]);
         &self.text
     }
-}
-
-fn given(r: &mut Reader) -> Words {
-    let mut s = [0; NUMBERS + SCORES];
-    s[..NUMBERS].copy_from_slice(&r.words(NUMBERS));
-    s[NUMBERS..].copy_from_slice(&r.reals());
-    s
-}
-
-/// Where two lists differ: runs of one value, which take in places that had it before.
-fn runs(before: &[u8], after: &[u8]) -> Vec<(u64, u64, u64)> {
-    let (mut runs, mut i) = (Vec::new(), 0);
-    while i < after.len() {
-        let value = after[i];
-        let length = after[i..].iter().take_while(|&&x| x == value).count();
-        if before[i..i + length] != after[i..i + length] {
-            runs.push((i as u64, length as u64, u64::from(value)));
-        }
-        i += length;
-    }
-    runs
 }

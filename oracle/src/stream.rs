@@ -2,23 +2,8 @@
 //! those words. Bytes and 32-bit numbers are packed into words, the rest of the last word 0.
 use std::io::{BufWriter, Stdout, Write, stdout};
 
+pub use crate::kind::Kind;
 use crate::paper::Paper;
-use crate::picture::Picture;
-
-#[derive(Clone, Copy)]
-pub enum Kind {
-    End = 0,
-    Scale = 1,
-    Planes = 2,
-    Intra = 3,
-    Threshold = 4,
-    Hadamard = 5,
-    Satd = 6,
-    Fresh = 7,
-    State = 8,
-    Step = 9,
-    Film = 10,
-}
 
 pub struct Stream {
     out: BufWriter<Stdout>,
@@ -36,13 +21,6 @@ impl Stream {
     /// The records as the fixed list.
     pub fn listed() -> Self {
         Stream { paper: Some(Paper::new()), ..Stream::new() }
-    }
-
-    /// What the samples or the entries of the next record were drawn from.
-    pub fn drawn(&mut self, pictures: [Picture; 2]) {
-        if let Some(paper) = &mut self.paper {
-            paper.pictures = pictures;
-        }
     }
 
     pub fn word(&mut self, w: u64) -> &mut Self {

@@ -21,16 +21,18 @@ impl Reader<'_> {
         self.words(count).into_iter().map(bits).collect()
     }
 
-    pub fn bytes(&mut self) -> Vec<u8> {
+    /// Bytes, each as a word.
+    pub fn bytes(&mut self) -> Vec<u64> {
         let count = self.word() as usize;
-        let all: Vec<u8> = self.words(count.div_ceil(8)).iter().flat_map(|w| w.to_le_bytes()).collect();
-        all[..count].to_vec()
+        let all = self.words(count.div_ceil(8)).into_iter().flat_map(u64::to_le_bytes).map(u64::from);
+        all.take(count).collect()
     }
 
-    pub fn halves(&mut self) -> Vec<u32> {
+    /// Numbers of 32 bits, each as a word.
+    pub fn halves(&mut self) -> Vec<u64> {
         let count = self.word() as usize;
-        let all: Vec<u32> = self.words(count.div_ceil(2)).iter().flat_map(|&w| [w as u32, (w >> 32) as u32]).collect();
-        all[..count].to_vec()
+        let all = self.words(count.div_ceil(2)).into_iter().flat_map(|w| [w & 0xffff_ffff, w >> 32]);
+        all.take(count).collect()
     }
 }
 

@@ -1,58 +1,43 @@
 // The desk: one list of words that holds all that is known between two bytes of the list. Each place has a name here.
-ghost use Prim.Native.Nat.{_≤_};
 
-// Counts: lines read, calls that passed and failed, cuts, whether the end was read.
+// Counts: lines read, calls that passed and failed, cuts, whether the end was read; then calls by letter and by refusal.
 pub const LINE: usize = 0;
 
 pub const PASSED: usize = 1;
 
 pub const FAILED: usize = 2;
 
-pub const CUT: usize = 3;
+pub const CUTS: usize = 3;
 
 pub const ENDED: usize = 4;
 
-// Then what was compared, by its kind, and the refusals, by their number.
-pub const KIND: usize = 5;
+pub const ROWS: usize = 64;
 
-pub const REFUSAL: usize = 17;
+// The line at hand: the place that the next word goes to, the letter of its call, 1 if a byte of it was read.
+pub const AT: usize = 5;
 
-// The line at hand: its bytes so far, its letter, how many words it has, 1 if something is wrong with it.
-pub const BYTES: usize = 32;
+pub const LETTER: usize = 6;
 
-pub const LETTER: usize = 33;
+pub const OPEN: usize = 7;
 
-pub const COUNT: usize = 34;
+// The word at hand: how many digits it has, their value, how many words it is to copy.
+pub const DIGITS: usize = 8;
 
-pub const FAULT: usize = 35;
+pub const VALUE: usize = 9;
 
-// The word at hand: the mark before it, how many digits it has, their value.
-pub const FORM: usize = 36;
-
-pub const DIGITS: usize = 37;
-
-pub const VALUE: usize = 38;
+pub const COPIES: usize = 10;
 
 // The check of all bytes so far, and of those above the line.
-pub const SUM: usize = 39;
+pub const SUM: usize = 11;
 
-pub const ABOVE: usize = 40;
+pub const ABOVE: usize = 12;
 
-// The detector's state as it should be: 13 numbers, and the bits of 80 doubles.
-pub const STATE: usize = 48;
+// The memory before the call, and as it should be after it.
+pub const GIVEN: usize = 128;
 
-// The shapes of the two planes, five numbers each.
-pub const SHAPE: usize = 144;
+pub const DUE: usize = 18944;
 
-// The pool of measures, by their bits.
-pub const POOL: usize = 160;
-
-// The words of the line.
-pub const WORDS: usize = 704;
-
-pub const PLACES: usize = 1216;
-
-pub const MOST_WORDS: u64 = 512;
+pub const PLACES: usize = 37760;
 
 // What stands at a place, 0 behind the last.
 pub fn get(desk: &[u64], i: usize) -> u64 {
@@ -79,49 +64,51 @@ pub fn add(desk: &mut [u64], i: usize) {
     put(desk, i, std::num::wrapping_add_u64(n, 1));
 }
 
-// A word of the line, 0 behind the last.
+pub fn add_at(desk: &mut [u64], from: usize, i: usize) {
+    add(desk, std::num::wrapping_add_usize(from, i));
+}
+
+// A word of the memory: before the call, or as it should be after it.
+pub fn held(desk: &[u64], at: usize, i: usize, is_given: bool) -> u64 {
+    let place = std::num::wrapping_add_usize(at, i);
+    if is_given {
+        return get_at(desk, GIVEN, place);
+    }
+    get_at(desk, DUE, place)
+}
+
+// A number that is given: whole, as a length, in 32 bits, of which any above is the largest.
 pub fn word(desk: &[u64], i: usize) -> u64 {
-    if (i as u64) < get(desk, COUNT) {
-        get_at(desk, WORDS, i)
-    } else {
-        0
-    }
+    get_at(desk, GIVEN, i)
 }
 
-// A word some places behind another.
-pub fn word_at(desk: &[u64], from: usize, i: usize) -> u64 {
-    word(desk, std::num::wrapping_add_usize(from, i))
+pub fn len(desk: &[u64], i: usize) -> usize {
+    word(desk, i) as usize
 }
 
-// The line is no record unless this holds.
-pub fn expect(desk: &mut [u64], is_well: bool) {
-    if !is_well {
-        put(desk, FAULT, 1);
-    }
+pub fn len_at(desk: &[u64], at: usize, i: usize) -> usize {
+    len(desk, std::num::wrapping_add_usize(at, i))
 }
 
-// The line has so many words.
-pub fn expect_words(desk: &mut [u64], count: u64) {
-    let is_well = get(desk, COUNT) == count;
-    expect(desk, is_well);
+pub fn half(desk: &[u64], i: usize) -> u32 {
+    low(word(desk, i))
 }
 
-// A number that is not to be above another.
-pub fn capped(desk: &mut [u64], n: u64, most: usize) -> usize
-    ensures { λ r. ⌜ r ≤ most ⌝ }
-{
-    let i = n as usize;
-    if most < i {
-        put(desk, FAULT, 1);
-        return most;
-    }
-    i
+pub fn low(w: u64) -> u32 {
+    if w < 4294967296 { w as u32 } else { 4294967295 }
 }
 
-// How many words there are from a place to the end of the line.
-pub fn left(desk: &mut [u64], from: usize) -> usize
-    ensures { λ r. ⌜ r ≤ 512 ⌝ }
-{
-    let n = std::num::wrapping_sub_u64(get(desk, COUNT), from as u64);
-    capped(desk, n, 512)
+// The answer that is due: the first word.
+pub fn due(desk: &[u64]) -> u64 {
+    word(desk, 0)
+}
+
+// A line begins.
+pub fn begin(desk: &mut [u64]) {
+    let sum = get(desk, SUM);
+    put(desk, ABOVE, sum);
+    put(desk, AT, 0);
+    put(desk, LETTER, 0);
+    put(desk, OPEN, 0);
+    add(desk, LINE);
 }

@@ -1,150 +1,125 @@
-// Records on two planes: the planes themselves, their differences, the SATD.
-use crate::desk;
-use crate::desk::get;
-use crate::desk::word;
-use crate::drawn;
-use crate::float;
-use crate::line;
-use crate::tally;
+// Calls on planes and on costs. Planes: the depth, then of each plane its length, width, height, stride and origin.
+use crate::desk::half;
+use crate::desk::len;
+use crate::desk::len_at;
+use crate::memory;
+use crate::parts;
 
-// How many numbers a shape has, and where a plane's record goes on behind its picture.
-const NUMBERS: usize = 5;
+const SAMPLES: usize = 8704;
 
-const PICTURE: usize = 9;
+const COSTS: usize = 64;
 
-// What a place for a float holds before a call.
-const BEFORE: f64 = 12345.5;
-
-// A plane's shape, and how many samples it has.
-pub struct Shape {
-    pub width: usize,
-    pub height: usize,
-    pub stride: usize,
-    pub origin: usize,
-    pub len: usize,
+// A plane's length and shape.
+struct Shape {
+    n: usize,
+    w: usize,
+    h: usize,
+    s: usize,
+    o: usize,
 }
 
-pub fn shape_of(desk: &[u64], which: usize) -> Shape {
-    let at = desk::SHAPE + which % 2 * NUMBERS;
+fn shape_at(desk: &[u64], at: usize) -> Shape {
     Shape {
-        width: get(desk, at) as usize,
-        height: get(desk, at + 1) as usize,
-        stride: get(desk, at + 2) as usize,
-        origin: get(desk, at + 3) as usize,
-        len: get(desk, at + 4) as usize,
+        n: len(desk, at),
+        w: len_at(desk, at, 1),
+        h: len_at(desk, at, 2),
+        s: len_at(desk, at, 3),
+        o: len_at(desk, at, 4),
     }
 }
 
-// P: which, width, height, stride, origin, length, low, span, seed, samples that differ
-pub fn plane(desk: &mut [u64], samples: &mut [u8]) {
-    let which = desk::capped(desk, word(desk, 0), 1);
-    for i in 0..NUMBERS {
-        let n = word(desk, i + 1);
-        desk::put_at(desk, desk::SHAPE + which * NUMBERS, i, n);
+// The plane difference, or the importance total.
+fn whole(letter: u8, desk: &[u64], first: &[u8], second: &[u8]) -> i64 {
+    let d = half(desk, 1);
+    let a = shape_at(desk, 2);
+    let b = shape_at(desk, 7);
+    let p = parts::samples(first, 0, a.n);
+    let q = parts::samples(second, 0, b.n);
+    if letter == b'P' {
+        return brinepulley::brine_plane_difference(d, p, a.w, a.h, a.s, a.o, q, b.w, b.h, b.s, b.o);
     }
-    drawn::paint(desk, samples, which * drawn::SAMPLES);
-    drawn::put_samples(desk, samples, which * drawn::SAMPLES, PICTURE);
+    brinepulley::brine_importance_total(d, p, a.w, a.h, a.s, a.o, q, b.w, b.h, b.s, b.o)
 }
 
-// The two measures that are whole numbers.
-fn wholes(desk: &mut [u64], a: Shape, first: &[u8], b: Shape, second: &[u8]) {
-    let depth = line::half(word(desk, 0));
-    let difference = brinepulley::brine_plane_difference(
-        depth,
-        first,
-        a.width,
-        a.height,
-        a.stride,
-        a.origin,
-        second,
-        b.width,
-        b.height,
-        b.stride,
-        b.origin,
-    );
-    let due = word(desk, 1);
-    tally::verdict(
-        desk,
-        tally::DIFFERENCE,
-        due,
-        difference == line::signed(due),
-    );
-    let total = brinepulley::brine_importance_total(
-        depth,
-        first,
-        a.width,
-        a.height,
-        a.stride,
-        a.origin,
-        second,
-        b.width,
-        b.height,
-        b.stride,
-        b.origin,
-    );
-    let due = word(desk, 2);
-    tally::verdict(desk, tally::TOTAL, due, total == line::signed(due));
+// Delta, or the importance.
+fn ratio(letter: u8, desk: &[u64], first: &[u8], second: &[u8], x: &mut f64) -> i64 {
+    let d = half(desk, 1);
+    let a = shape_at(desk, 2);
+    let b = shape_at(desk, 7);
+    let p = parts::samples(first, 0, a.n);
+    let q = parts::samples(second, 0, b.n);
+    if letter == b'D' {
+        return brinepulley::brine_delta(d, p, a.w, a.h, a.s, a.o, q, b.w, b.h, b.s, b.o, x);
+    }
+    brinepulley::brine_importance(d, p, a.w, a.h, a.s, a.o, q, b.w, b.h, b.s, b.o, x)
 }
 
-// The two that are quotients.
-fn reals(desk: &mut [u64], a: Shape, first: &[u8], b: Shape, second: &[u8]) {
-    let depth = line::half(word(desk, 0));
-    let due = word(desk, 3);
-    let mut delta = BEFORE;
-    let answer = brinepulley::brine_delta(
-        depth,
-        first,
-        a.width,
-        a.height,
-        a.stride,
-        a.origin,
-        second,
-        b.width,
-        b.height,
-        b.stride,
-        b.origin,
-        &mut delta,
-    );
-    let is_same = float::same(delta, word(desk, 4)) & (answer == line::signed(due));
-    tally::verdict(desk, tally::DELTA, due, is_same);
-    let mut importance = BEFORE;
-    let answer = brinepulley::brine_importance(
-        depth,
-        first,
-        a.width,
-        a.height,
-        a.stride,
-        a.origin,
-        second,
-        b.width,
-        b.height,
-        b.stride,
-        b.origin,
-        &mut importance,
-    );
-    let is_same = float::same(importance, word(desk, 5)) & (answer == line::signed(due));
-    tally::verdict(desk, tally::IMPORTANCE, due, is_same);
+// The second plane is the work plane; then the length of the costs.
+fn intra(desk: &[u64], first: &[u8], second: &mut [u8], costs: &mut [u32]) -> i64 {
+    let d = half(desk, 1);
+    let a = shape_at(desk, 2);
+    let b = shape_at(desk, 7);
+    let p = parts::samples(first, 0, a.n);
+    let q = parts::work(second, 0, b.n);
+    let c = parts::room(costs, 0, len(desk, 12));
+    brinepulley::brine_intra_costs(d, p, a.w, a.h, a.s, a.o, q, b.w, b.h, b.s, b.o, c)
 }
 
-// D: depth, plane difference, importance total, what the other two answer, delta, importance
-pub fn pair(desk: &mut [u64], samples: &[u8]) {
-    desk::expect_words(desk, 6);
-    let a = shape_of(desk, 0);
-    let b = shape_of(desk, 1);
-    let first = drawn::part(samples, 0, a.len);
-    let second = drawn::part(samples, drawn::SAMPLES, b.len);
-    wholes(desk, a, first, b, second);
-    reals(desk, a, first, b, second);
+// The SATD of the samples of both planes.
+fn satd(desk: &[u64], first: &[u8], second: &[u8]) -> i64 {
+    let p = parts::samples(first, 0, len(desk, 2));
+    let q = parts::samples(second, 0, len(desk, 7));
+    brinepulley::brine_satd8x8(p, q)
 }
 
-// B: the SATD of the samples of the two planes
-pub fn satd(desk: &mut [u64], samples: &[u8]) {
-    desk::expect_words(desk, 1);
-    let a = shape_of(desk, 0);
-    let b = shape_of(desk, 1);
-    let first = drawn::part(samples, 0, a.len);
-    let second = drawn::part(samples, drawn::SAMPLES, b.len);
-    let answer = brinepulley::brine_satd8x8(first, second);
-    let due = word(desk, 0);
-    tally::verdict(desk, tally::SATD, due, answer == line::signed(due));
+// How many costs are given, and the count.
+fn threshold(desk: &[u64], costs: &[u32], x: &mut f64) -> i64 {
+    let c = parts::costs(costs, 0, len(desk, 1));
+    brinepulley::brine_threshold(c, len(desk, 2), x)
+}
+
+fn call(
+    letter: u8,
+    desk: &[u64],
+    first: &[u8],
+    second: &mut [u8],
+    costs: &mut [u32],
+    x: &mut f64,
+) -> i64 {
+    match letter {
+        b'P' | b'M' => whole(letter, desk, first, second),
+        b'D' | b'I' => ratio(letter, desk, first, second, x),
+        b'B' => satd(desk, first, second),
+        b'C' => intra(desk, first, second, costs),
+        _ => threshold(desk, costs, x),
+    }
+}
+
+// Whether what was lent is as it should be.
+fn is_right(desk: &[u64], second: &mut [u8], costs: &mut [u32]) -> bool {
+    memory::samples(desk, second, memory::SECOND, false)
+        & memory::costs(desk, costs, memory::COSTS, false)
+}
+
+// A call over the lists that it is given or lent.
+fn replay_in(
+    letter: u8,
+    desk: &[u64],
+    first: &mut [u8],
+    second: &mut [u8],
+    costs: &mut [u32],
+) -> bool {
+    memory::samples(desk, first, memory::FIRST, true);
+    memory::samples(desk, second, memory::SECOND, true);
+    memory::costs(desk, costs, memory::COSTS, true);
+    let mut x = memory::quotient(desk);
+    let answer = call(letter, desk, first, second, costs, &mut x);
+    is_right(desk, second, costs) & memory::is_result(desk, answer, x)
+}
+
+pub fn replay(letter: u8, desk: &[u64]) -> bool {
+    let mut p = [0u8; SAMPLES];
+    let mut q = [0u8; SAMPLES];
+    let mut costs = [0u32; COSTS];
+    replay_in(letter, desk, &mut p[..], &mut q[..], &mut costs[..])
 }

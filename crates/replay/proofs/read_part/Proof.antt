@@ -1,4 +1,4 @@
--- `replay::read_part` is safe and ends. The lists keep their lengths. The measure is how many bytes are left. Assumes nothing.
+-- `replay::read_part` is safe and ends. The desk keeps its length. The measure is how many bytes are left. Assumes nothing.
 use mathlib.Core.Path.{_≡_}
 use Prim.Native.Nat.{_-_}
 use lib.ListN.{length}
@@ -7,19 +7,19 @@ use Rattle.replay.proofs.read_part.Statement.{statement}
 use Rattle.replay.proofs.read_part.Tie as tie
 
 abbrev Inv-loop : tie.InvT-loop
-Inv-loop part desk₀ samples₀ i₀ i-end desk samples i = (i-end ≡ length part) × (length desk ≡ length desk₀) × (length samples ≡ length samples₀)
+Inv-loop part desk₀ i₀ i-end desk i = (i-end ≡ length part) × (length desk ≡ length desk₀)
 
 abbrev μ-loop : tie.MeasureT-loop
-μ-loop part desk₀ samples₀ i₀ i-end desk samples i = i-end - i
+μ-loop part desk₀ i₀ i-end desk i = i-end - i
 
 loop-holds : tie.Need-loop-holds Inv-loop μ-loop
 loop-holds c = search needs
 
-shared-slice-read-read-byte : tie.Need-shared-slice-read-read-byte Inv-loop μ-loop
-shared-slice-read-read-byte c = search needs
+shared-slice-read-read : tie.Need-shared-slice-read-read Inv-loop μ-loop
+shared-slice-read-read c = search needs
 
-read-byte-requires : tie.Need-read-byte-requires Inv-loop μ-loop
-read-byte-requires c κs = search needs
+read-requires : tie.Need-read-requires Inv-loop μ-loop
+read-requires c κs = search needs
 
 add-i : tie.Need-add-i Inv-loop μ-loop
 add-i c = search needs
@@ -33,9 +33,6 @@ loop-again c = search needs
 same-length : tie.Need-same-length Inv-loop μ-loop
 same-length c = search needs
 
-same-length-2 : tie.Need-same-length-2 Inv-loop μ-loop
-same-length-2 c = search needs
-
 returns : tie.Need-returns Inv-loop μ-loop
 returns c = search needs
 
@@ -46,11 +43,10 @@ read-part-spec =
     Inv-loop
     μ-loop
     loop-holds
-    shared-slice-read-read-byte
-    read-byte-requires
+    shared-slice-read-read
+    read-requires
     add-i
     loop-less
     loop-again
     same-length
-    same-length-2
     returns)

@@ -1,0 +1,16 @@
+//! The kinds of records, by the number that each has in the stream.
+
+#[derive(Clone, Copy)]
+pub enum Kind {
+    End = 0,
+    Scale = 1,
+    Planes = 2,
+    Intra = 3,
+    Threshold = 4,
+    Hadamard = 5,
+    Satd = 6,
+    Fresh = 7,
+    State = 8,
+    Step = 9,
+    Film = 10,
+}
