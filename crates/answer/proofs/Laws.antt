@@ -1,6 +1,6 @@
 -- Laws of refusals and answers, cited by every crate that refuses. Assumes nothing.
 use mathlib.Core.Path.{_≡_, refl, sym, ap, _∙_}
-use mathlib.Core.Bool.{Bool, true, false, cond}
+use mathlib.Core.Bool.{Bool, true, false, _||_, cond, true≢false}
 use Prim.Native.Nat.{ℕ, suc}
 use native.Mathlib.Nat.{suc-ne-zero}
 use lib.Dec.{eqb}
@@ -12,6 +12,11 @@ use Rattle.answer.specs.declared.Whole.{Whole}
 use Rattle.answer.specs.declared.Whole.the-variants as whole
 use Rattle.answer.specs.declared.Real.{Real}
 use Rattle.answer.specs.declared.Real.the-variants as real
+
+-- neither of two tests holds
+pub or-no : (a b : Bool) → a || b ≡ false → (a ≡ false) × (b ≡ false)
+or-no true b e = absurd (true≢false e)
+or-no false b e = (refl, e)
 
 -- a refusal that is given comes first
 pub or-given : (r f g : ℕ) → r ≡ f → (r ≡ 0 → ⊥) → r ≡ f orElse g

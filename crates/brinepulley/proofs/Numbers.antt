@@ -1,13 +1,10 @@
--- What an i64 is made of: a number below 2 ^ 63 reads back as itself, and a refusal's number negated. Assumes nothing.
+-- What an i64 is made of: a number below 2 ^ 63 reads back as itself. Assumes nothing.
 use mathlib.Core.Path.{_≡_, refl, sym, ap, subst, _∙_}
-use Prim.Native.Nat.{ℕ, zero, suc, _<_, _^_}
-use native.Mathlib.Omega.{arith}
+use Prim.Native.Nat.{ℕ, _<_, _^_}
 use borrow.Author.Tests.{lt-ltb}
-use lib.IntN.{ℤ, pos, negℤ, _-ℤ_, +ℤ-idl}
-use lib.Signed.{mag}
+use lib.IntN.{pos, negℤ}
 use mir.Syntax.{w64}
-use mir.Val.{SFits, toZ, ofZ}
-use mir.Facts.{toZ-ofZ}
+use mir.Val.{toZ}
 use Rattle.answer.specs.Answer.{Answer, gives, answered}
 use Rattle.answer.proofs.Laws.{answer-cases}
 use Rattle.brinepulley.specs.Coded.{coded, done}
@@ -15,19 +12,6 @@ use Rattle.brinepulley.specs.Needs.{Codable}
 
 read-small : (n : ℕ) → n < 2 ^ 63 → toZ w64 n ≡ pos n
 read-small n h = rw (lt-ltb n (2 ^ 63) h)
-
-mag-neg : (n : ℕ) → n < 2 ^ 32 → mag (negℤ (pos n)) < 2 ^ 63
-mag-neg zero h = omega arith
-mag-neg (suc n) h = omega arith
-
-neg-is : (n : ℕ) → n < 2 ^ 32 → pos 0 -ℤ toZ w64 n ≡ negℤ (pos n)
-neg-is n h = ap (λ (z : ℤ). pos 0 -ℤ z) (read-small n (omega arith)) ∙ +ℤ-idl (negℤ (pos n))
-
-pub neg-fits : (n : ℕ) → n < 2 ^ 32 → SFits w64 (pos 0 -ℤ toZ w64 n)
-neg-fits n h = subst (SFits w64) (sym (neg-is n h)) (record { sfits = mag-neg n h })
-
-pub neg-back : (n : ℕ) → n < 2 ^ 32 → toZ w64 (ofZ w64 (pos 0 -ℤ toZ w64 n)) ≡ negℤ (pos n)
-neg-back n h = toZ-ofZ (neg-fits n h) ∙ neg-is n h
 
 -- an answer can be coded where its number can
 pub codable-answer : (fault n : ℕ) → (fault ≡ 0 → n < 2 ^ 63) → Codable (answered fault n)

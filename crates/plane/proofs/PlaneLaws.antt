@@ -1,6 +1,6 @@
 -- When a plane is refused, what one that is not refused keeps to, and its rows. Assumes nothing.
 use mathlib.Core.Path.{_≡_, refl, sym, _∙_}
-use mathlib.Core.Bool.{Bool, true, false, not, _||_, true≢false}
+use mathlib.Core.Bool.{Bool, true, false, not, _||_}
 use mathlib.Core.List.{List}
 use Prim.Native.Nat.{ℕ, _+_, _-_, _*_, _/_, _≤_, _<_, _^_}
 use native.Mathlib.Nat.{pos-of-ne-zero, mul-le-mul, mul-le-mul-right, div-lt-iff-lt-mul, le-div-iff-mul-le}
@@ -10,7 +10,7 @@ use lib.ListN.{length, getD, take, drop, length-take, length-drop}
 use lib.Seq.{getD-take, getD-drop}
 use borrow.Author.Tests.{lt-ltb, le-ltb, le-leb, lt-leb, ltb-false, leb-true, leb-false, eqb-true, eqb-false, not-false}
 use Rattle.answer.specs.Refusal.{refusal, _orElse_}
-use Rattle.answer.proofs.Laws.{or-none, passed, test-given, test-first, test-passed, test-later}
+use Rattle.answer.proofs.Laws.{or-no, or-none, passed, test-given, test-first, test-passed, test-later}
 use Rattle.plane.specs.declared.Plane.{Plane}
 use Rattle.plane.specs.Planes.{sampleAt, rowEnd, rowOf, maxSide, badSide, badPlane, pastSamples, sizesDiffer, planeFault, sizesFault, byteFault, pairFault}
 
@@ -23,11 +23,6 @@ same-test a b c d holds fails = go (leb a b) refl
     go : (t : Bool) → leb a b ≡ t → leb a b ≡ leb c d
     go true e = e ∙ sym (le-leb c d (holds (leb-true a b e)))
     go false e = e ∙ sym (lt-leb c d (fails (leb-false a b e)))
-
--- neither of two tests holds
-or-false : (a b : Bool) → a || b ≡ false → (a ≡ false) × (b ≡ false)
-or-false true b e = absurd (true≢false e)
-or-false false b e = (refl, e)
 
 -- ---- the room of a row, counted down so that no sum overflows
 
@@ -74,14 +69,14 @@ pub record Lies (p : Plane) (n : ℕ) : Type 0 where
 side : (n : ℕ) → badSide n ≡ false → (0 < n) × (n ≤ maxSide)
 unfolding badSide
 side n e =
-    let t = or-false (eqb n 0) (ltb maxSide n) e in
+    let t = or-no (eqb n 0) (ltb maxSide n) e in
     (pos-of-ne-zero (eqb-false n 0 (t .0)), ltb-false maxSide n (t .1))
 
 pub shape : (p : Plane) → badPlane p ≡ false → ((0 < p .width) × (p .width ≤ maxSide)) × ((0 < p .height) × (p .height ≤ maxSide)) × (p .width ≤ p .stride)
 unfolding badPlane
 shape p e =
-    let t = or-false (badSide (p .width) || badSide (p .height)) (ltb (p .stride) (p .width)) e in
-    let u = or-false (badSide (p .width)) (badSide (p .height)) (t .0) in
+    let t = or-no (badSide (p .width) || badSide (p .height)) (ltb (p .stride) (p .width)) e in
+    let u = or-no (badSide (p .width)) (badSide (p .height)) (t .0) in
     (side (p .width) (u .0), side (p .height) (u .1), ltb-false _ _ (t .1))
 
 pub lies : (p : Plane) (n : ℕ) → planeFault p n ≡ 0 → Lies p n
@@ -131,7 +126,7 @@ unfolding sizesFault sizesDiffer
 pair p n q m e =
     let f = or-none (planeFault p n) (planeFault q m orElse refusal 3 (sizesDiffer p q)) e in
     let t = or-none (planeFault q m) (refusal 3 (sizesDiffer p q)) (f .1) in
-    let d = or-false (not (eqb (p .width) (q .width))) (not (eqb (p .height) (q .height))) (passed 2 (sizesDiffer p q) (t .1)) in
+    let d = or-no (not (eqb (p .width) (q .width))) (not (eqb (p .height) (q .height))) (passed 2 (sizesDiffer p q) (t .1)) in
     record {
       first = lies p n (f .0);
       second = lies q m (t .0);

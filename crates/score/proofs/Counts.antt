@@ -9,6 +9,7 @@ use native.Mathlib.Numerals.{add-one}
 use native.Mathlib.Omega.{arith}
 use lib.ListN.{length, take, drop, getD, drop-of-length-le}
 use lib.Seq.{drop-cons}
+use Rattle.answer.proofs.Laws.{or-no}
 use Rattle.score.specs.Search.{anyOf, countOf}
 
 module _ {A : Type 0} (test : A → Bool) (l : List A) (i : ℕ) where
@@ -28,11 +29,6 @@ module _ {A : Type 0} (test : A → Bool) (l : List A) (i : ℕ) where
     pub count-more : countOf test (drop i l) ≡ cond (test (getD l i z)) 1 0 + countOf test (drop (i + 1) l)
     unfolding countOf
     count-more = rw (add-one, drop-cons l i z h)
-
--- a disjunction that fails
-pub or-no : (a b : Bool) → a || b ≡ false → (a ≡ false) × (b ≡ false)
-or-no true b e = let z : _≡_ {A = ℕ} 0 1 = cc in absurd (omega arith)
-or-no false b e = (refl, e)
 
 -- a search that finds nothing, of an element and the rest
 module _ {A : Type 0} (test : A → Bool) where

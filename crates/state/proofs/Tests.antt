@@ -6,7 +6,7 @@ use Prim.Native.Nat.{ℕ, _<_}
 use native.Mathlib.Omega.{arith}
 use lib.Dec.{eqb}
 use borrow.Author.Tests.{eqb-true, not-false}
-use Rattle.score.proofs.Counts.{or-no}
+use Rattle.answer.proofs.Laws.{or-no}
 
 -- a disjunction that fails
 pub or-left : (a b : Bool) → a || b ≡ false → a ≡ false

@@ -7,9 +7,8 @@ use native.Mathlib.Omega.{arith}
 use lib.Dec.{eqb, leb}
 use lib.ListN.{length}
 use borrow.Author.Tests.{ltb-false, leb-false, le-ltb, lt-leb, eq-eqb, ne-eqb, eqb-true, eqb-false, not-true}
-use Rattle.answer.proofs.Laws.{passed}
+use Rattle.answer.proofs.Laws.{or-no, passed}
 use Rattle.settings.specs.Settings.{room, normalLookahead, lookaheadOffset, settingsFault}
-use Rattle.score.proofs.Counts.{or-no}
 use Rattle.state.specs.State.{View}
 use Rattle.state.specs.Refusals.{settingsForbidden, overRoom, overWindow, offsetPast, offsetAstray, unfit, costForbidden, stateFault}
 use Rattle.state.proofs.Tests.{and-right, not-both, not-eqb, positive}

@@ -77,3 +77,14 @@ module _ (w : Width) (x y : ℕ) (h : x < 2 ^ hbits w) (k : y < 2 ^ hbits w) whe
 
   pub same-is : natAbs (pos x -ℤ pos y) ≡ apart x y
   same-is = abs-difference x y
+
+-- a number that a signed number of width w holds: its negation fits, and is read back as it was
+module _ (w : Width) (n : ℕ) (h : n < 2 ^ hbits w) where
+  negation-is : pos 0 -ℤ toZ w n ≡ negℤ (pos n)
+  negation-is = ap (λ (z : ℤ). pos 0 -ℤ z) (toZ-pos w h) ∙ +ℤ-idl (negℤ (pos n))
+
+  pub negation-fits : SFits w (pos 0 -ℤ toZ w n)
+  negation-fits = rw negation-is (record { sfits = omega (arith, mag-abs (negℤ (pos n)), abs-flip (pos n)) })
+
+  pub negation-back : toZ w (ofZ w (pos 0 -ℤ toZ w n)) ≡ negℤ (pos n)
+  negation-back = toZ-ofZ negation-fits ∙ negation-is

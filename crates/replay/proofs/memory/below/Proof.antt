@@ -1,7 +1,8 @@
 -- `replay::memory::below` negates a number of 32 bits, which an i64 holds. Assumes nothing.
 use native.Mathlib.Omega.{arith}
 use borrow.Author.Needs.{needs}
-use Rattle.brinepulley.proofs.Numbers.{neg-fits}
+use mir.Syntax.{w64}
+use Rattle.sums.proofs.SignedLaws.{negation-fits}
 use Rattle.replay.proofs.memory.below.Statement.{statement}
 use Rattle.replay.proofs.memory.below.Tie as tie
 
@@ -9,7 +10,7 @@ cast-result : tie.Need-cast-result
 cast-result c = search needs
 
 sub-result : tie.Need-sub-result
-sub-result c = neg-fits (c .args .size) (omega arith)
+sub-result c = negation-fits w64 (c .args .size) (omega arith)
 
 returns : tie.Need-returns
 returns c = search needs

@@ -2,7 +2,8 @@
 use Prim.Native.Nat.{_%_}
 use native.Mathlib.Omega.{arith}
 use borrow.Author.Needs.{needs}
-use Rattle.replay.proofs.Signs.{neg-fits}
+use mir.Syntax.{w32}
+use Rattle.sums.proofs.SignedLaws.{negation-fits}
 use Rattle.replay.proofs.memory.below_entry.Statement.{statement}
 use Rattle.replay.proofs.memory.below_entry.Tie as tie
 
@@ -10,7 +11,7 @@ cast-result : tie.Need-cast-result
 cast-result c = search needs
 
 sub-result : tie.Need-sub-result
-sub-result c = neg-fits (c .args .size % 2147483648) (omega arith)
+sub-result c = negation-fits w32 (c .args .size % 2147483648) (omega arith)
 
 returns : tie.Need-returns
 returns c = search needs
