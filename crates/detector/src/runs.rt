@@ -38,8 +38,8 @@ fn window(list: &[f64], from: usize, items: usize) -> &[f64]
 }
 
 // A run of calls over a film. Call j has the number, the length and the previous keyframe at place j, and item k of its lists stands
-// at place j + k of the film's. The answer is that of the last call, or the first refusal. A refused state is one that the run itself
-// made, so its view, with the count in it, is all that can be said of it.
+// at place j + k of the film's. The answer is that of the last call, or the first refusal. Of a refused state
+// the contract says the view, with the count in it: most often it is one that the run itself made, of which no more can be said.
 pub fn run(
     before: Stepped,
     numbers: &[u64],

@@ -5,7 +5,8 @@ use Prim.Native.Nat.{ℕ, _+_, _-_, _*_, _≤_, _<_, _^_}
 use native.Mathlib.Omega.{arith}
 use lib.ListN.{length, getD, take, drop}
 use lib.Seq.{getD-take, getD-drop}
-use Rattle.plane.specs.Blocks.{blockSide, blocksAcross, blocksDown, blockSample, blockStart, blockRow}
+use Rattle.plane.specs.Blocks.{blockSide, blocksAcross, blocksDown, blockSample, blockRow}
+use Rattle.plane.specs.Needs.{blockStart}
 use Rattle.plane.specs.Planes.{pairFault}
 use Rattle.plane.specs.declared.Plane.{Plane}
 use Rattle.plane.proofs.BlockLaws.{block-place, row-starts}

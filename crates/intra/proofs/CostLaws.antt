@@ -16,7 +16,8 @@ use Rattle.answer.specs.Refusal.{refusal}
 use Rattle.answer.proofs.Laws.{or-given, or-later, or-none, passed, test-given, test-passed}
 use Rattle.answer.specs.declared.Whole.{Whole}
 use Rattle.answer.specs.declared.Whole.the-variants as whole
-use Rattle.plane.specs.Blocks.{blockSide, blocksAcross, blocksDown, blockCount, blockSample, blocksStart, blockStart, blockRow}
+use Rattle.plane.specs.Blocks.{blockSide, blocksAcross, blocksDown, blockCount, blockSample, blocksStart, blockRow}
+use Rattle.plane.specs.Needs.{blockStart}
 use Rattle.plane.specs.Planes.{maxSide, sizesFault, pairFault}
 use Rattle.plane.specs.declared.Plane.{Plane}
 use Rattle.plane.proofs.BlockLaws.{block-in, block-place, count-most, row-starts}

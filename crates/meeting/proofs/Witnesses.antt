@@ -1,6 +1,6 @@
 -- The hypotheses of specs/Meeting.antt hold of a film with sets of seven frames, in Standard mode and in Fast, where the fresh run begins
--- two calls after the old one: computed, call by call. So no statement asks for more than that. Here, and here alone, definitions
--- of other crates are opened: a film is computed by all of them.
+-- two calls after the old one: computed, call by call. So no statement asks for more than that. In this crate, here alone,
+-- definitions of other crates are opened: a film is computed by all of them.
 -- Assumes nothing.
 use mathlib.Core.Path.{_≡_, refl}
 use mathlib.Core.Bool.{_||_, cond}

@@ -7,7 +7,8 @@ use native.Mathlib.Omega.{arith}
 use borrow.Author.Tests.{lt-ltb, le-leb}
 use lib.ListN.{getD}
 use Rattle.plane.specs.declared.Plane.{Plane}
-use Rattle.plane.specs.Blocks.{blockSide, blocksAcross, blocksDown, blockCount, blockSample, blocksStart, blockStart, blockRow}
+use Rattle.plane.specs.Blocks.{blockSide, blocksAcross, blocksDown, blockCount, blockSample, blocksStart, blockRow}
+use Rattle.plane.specs.Needs.{blockStart}
 use Rattle.plane.specs.Planes.{maxSide, rowEnd}
 use Rattle.plane.proofs.PlaneLaws.{Lies, row-in}
 

@@ -23,12 +23,9 @@ blockCount p = blocksDown p * blocksAcross p
 abbrev pub blockSample : Plane → List ℕ → ℕ → ℕ → ℕ → ℕ → ℕ
 blockSample p s y x j i = sampleAt p s (y * blockSide + j) (x * blockSide + i)
 
--- where row y of blocks starts, counted from the first lent sample, and block (x, y)
+-- where row y of blocks starts, counted from the first lent sample
 abbrev pub blocksStart : Plane → ℕ → ℕ
 blocksStart p y = p .origin + y * blockSide * p .stride
-
-abbrev pub blockStart : Plane → ℕ → ℕ → ℕ
-blockStart p y x = blocksStart p y + x * blockSide
 
 -- where row y of blocks starts over n samples: n where there is no such row, or where its first row of samples does not lie within them
 unfoldable pub blockRow : Plane → ℕ → ℕ → ℕ

@@ -69,7 +69,7 @@ pub fn add_at(desk: &mut [u64], from: usize, i: usize) {
 }
 
 // A word of the memory: before the call, or as it should be after it.
-pub fn held(desk: &[u64], at: usize, i: usize, is_given: bool) -> u64 {
+pub fn stands(desk: &[u64], at: usize, i: usize, is_given: bool) -> u64 {
     let place = std::num::wrapping_add_usize(at, i);
     if is_given {
         return get_at(desk, GIVEN, place);

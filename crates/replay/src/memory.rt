@@ -120,7 +120,7 @@ fn real(list: &mut [f64], i: usize, w: u64, is_given: bool) -> bool {
 // What is due so far is given from here on.
 pub fn settle(desk: &mut [u64], end: usize) {
     for i in 0..end {
-        let w = desk::held(desk, 0, i, false);
+        let w = desk::stands(desk, 0, i, false);
         desk::put_at(desk, desk::GIVEN, i, w);
     }
 }
@@ -129,7 +129,7 @@ pub fn settle(desk: &mut [u64], end: usize) {
 pub fn numbers(desk: &[u64], list: &mut [u64], at: usize, is_given: bool) -> bool {
     let mut is_same = true;
     for i in 0..list.len() {
-        is_same = is_same & number(list, i, desk::held(desk, at, i, is_given), is_given);
+        is_same = is_same & number(list, i, desk::stands(desk, at, i, is_given), is_given);
     }
     is_same
 }
@@ -137,7 +137,7 @@ pub fn numbers(desk: &[u64], list: &mut [u64], at: usize, is_given: bool) -> boo
 pub fn samples(desk: &[u64], list: &mut [u8], at: usize, is_given: bool) -> bool {
     let mut is_same = true;
     for i in 0..list.len() {
-        is_same = is_same & sample(list, i, desk::held(desk, at, i, is_given), is_given);
+        is_same = is_same & sample(list, i, desk::stands(desk, at, i, is_given), is_given);
     }
     is_same
 }
@@ -145,7 +145,7 @@ pub fn samples(desk: &[u64], list: &mut [u8], at: usize, is_given: bool) -> bool
 pub fn costs(desk: &[u64], list: &mut [u32], at: usize, is_given: bool) -> bool {
     let mut is_same = true;
     for i in 0..list.len() {
-        is_same = is_same & cost(list, i, desk::held(desk, at, i, is_given), is_given);
+        is_same = is_same & cost(list, i, desk::stands(desk, at, i, is_given), is_given);
     }
     is_same
 }
@@ -153,7 +153,7 @@ pub fn costs(desk: &[u64], list: &mut [u32], at: usize, is_given: bool) -> bool 
 pub fn entries(desk: &[u64], list: &mut [i32], at: usize, is_given: bool) -> bool {
     let mut is_same = true;
     for i in 0..list.len() {
-        is_same = is_same & entry(list, i, desk::held(desk, at, i, is_given), is_given);
+        is_same = is_same & entry(list, i, desk::stands(desk, at, i, is_given), is_given);
     }
     is_same
 }
@@ -161,14 +161,14 @@ pub fn entries(desk: &[u64], list: &mut [i32], at: usize, is_given: bool) -> boo
 pub fn reals(desk: &[u64], list: &mut [f64], at: usize, is_given: bool) -> bool {
     let mut is_same = true;
     for i in 0..list.len() {
-        is_same = is_same & real(list, i, desk::held(desk, at, i, is_given), is_given);
+        is_same = is_same & real(list, i, desk::stands(desk, at, i, is_given), is_given);
     }
     is_same
 }
 
 // A quotient that is lent has a place of its own.
 pub fn quotient(desk: &[u64]) -> f64 {
-    float::of_bits(desk::held(desk, QUOTIENT, 0, true))
+    float::of_bits(desk::stands(desk, QUOTIENT, 0, true))
 }
 
 // Whether the answer is as it should be, and where a quotient was lent, that too.
@@ -177,5 +177,5 @@ pub fn is_due(desk: &[u64], answer: i64) -> bool {
 }
 
 pub fn is_result(desk: &[u64], answer: i64, quotient: f64) -> bool {
-    is_due(desk, answer) & float::same(quotient, desk::held(desk, QUOTIENT, 0, false))
+    is_due(desk, answer) & float::same(quotient, desk::stands(desk, QUOTIENT, 0, false))
 }

@@ -11,7 +11,9 @@ const SHOWN: u64 = 20;
 // Calls are counted in rows: accepted ones by their letter, refused ones behind them by their number.
 const LETTERS: usize = 32;
 
-const ROWS: usize = 48;
+const REFUSALS: usize = 32;
+
+const ROWS: usize = LETTERS + REFUSALS;
 
 // Answers from here on are refusals.
 const NEGATIVE: u64 = 9223372036854775808;
@@ -47,7 +49,7 @@ fn row(letter: u64, due: u64) -> usize {
     if due < NEGATIVE {
         return letter as usize % LETTERS;
     }
-    LETTERS + std::num::wrapping_sub_u64(0, due) as usize % 16
+    LETTERS + std::num::wrapping_sub_u64(0, due) as usize % REFUSALS
 }
 
 // Cuts are answers of the detector with the lowest bit.

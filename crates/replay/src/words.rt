@@ -80,7 +80,7 @@ fn place(desk: &mut [u64], w: u64) {
 // Words go to the next places, copied from one place on.
 fn copy(desk: &mut [u64], from: usize, count: usize) {
     for k in 0..count {
-        let w = desk::held(desk, from, k, false);
+        let w = desk::stands(desk, from, k, false);
         place(desk, w);
     }
 }

@@ -5,10 +5,10 @@ use Rattle.replay.proofs.tally.put_rows.Statement.{statement}
 use Rattle.replay.proofs.tally.put_rows.Tie as tie
 
 abbrev Inv-loop : tie.InvT-loop
-Inv-loop desk row₀ row = row ≤ 48
+Inv-loop desk row₀ row = row ≤ 64
 
 abbrev μ-loop : tie.MeasureT-loop
-μ-loop desk row₀ row = 48 - row
+μ-loop desk row₀ row = 64 - row
 
 loop-holds : tie.Need-loop-holds Inv-loop μ-loop
 loop-holds c = search needs
