@@ -7,6 +7,8 @@ out=$1 seed=$2 count=$3
 shift 3
 # The walk that goes on has the same answers: once the least is below 0 it becomes 0, and so does every later one.
 equivalent=" walk-goes-on "
+# These want a call with just two faults, which is seldom drawn: the fixed list has a line for each (list_mutants.sh).
+listed=" order-8-9 order-9-10 order-3-4 "
 caught=0 survived=0 wrong=0
 echo "| Mutant | What it breaks | Comparisons that fail |"
 echo "|---|---|---|"
@@ -20,7 +22,7 @@ for name in ${MUTANTS:-$(sed -n 's/^name: //p' "$here/mutants.txt")}; do
     esac
     first=$(sed -n 's/^failed: \(.*\)/\1/p' "$out.log" | paste -sd, - | sed 's/,/, /g')
     case $first in
-    "") first="nothing"; survived=$((survived + 1)); case $equivalent in *" $name "*) ;; *) wrong=$((wrong + 1)) ;; esac ;;
+    "") first="nothing"; survived=$((survived + 1)); case $equivalent$listed in *" $name "*) ;; *) wrong=$((wrong + 1)) ;; esac ;;
     *) caught=$((caught + 1)) ;;
     esac
     echo "| $name | $rule | $first |"
