@@ -1,0 +1,3 @@
+pub mod Records
+pub mod Log
+pub mod Promises

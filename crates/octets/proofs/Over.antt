@@ -1,0 +1,80 @@
+-- Bytes written over others: what stays, what stands there, and that bytes written behind others are written with them. Assumes nothing.
+use mathlib.Core.Path.{_≡_, refl, sym, ap, _∙_}
+use mathlib.Core.List.{List, [], _∷_, _++_, append-assoc}
+use Prim.Native.Nat.{ℕ, _+_, _-_, _≤_, _<_}
+use native.Mathlib.Omega.{arith}
+use lib.ListN.{length, take, drop, length-append, length-take, length-drop, take-append-drop}
+use lib.Seq.{take-at, drop-at, take-append-le, drop-append-le, length-take-le, drop-drop, take-take, drop-append-add, take-append-seam}
+use Rattle.octets.specs.Octets.{overwritten}
+
+module _ (at : ℕ) (bs s : List ℕ) (h : at ≤ length s) where
+  front-long : length (take at s) ≡ at
+  front-long = length-take-le at s h
+
+  written-long : length (take at s ++ bs) ≡ at + length bs
+  written-long = omega (arith, length-append (take at s) bs, front-long)
+
+  -- what stands before stays
+  pub over-front : (k : ℕ) → k ≤ at → take k (overwritten at bs s) ≡ take k s
+  unfolding overwritten
+  over-front k l =
+      rw (append-assoc (take at s) bs (drop (at + length bs) s))
+      (take-append-le k (take at s) (bs ++ drop (at + length bs) s) (omega (arith, front-long)) ∙ take-take k at s l)
+
+  -- from the place on
+  pub over-drop : drop at (overwritten at bs s) ≡ bs ++ drop (at + length bs) s
+  unfolding overwritten
+  over-drop = rw (append-assoc (take at s) bs (drop (at + length bs) s)) (drop-at (take at s) (bs ++ drop (at + length bs) s) at front-long)
+
+  -- the bytes stand there
+  pub over-here : take (length bs) (drop at (overwritten at bs s)) ≡ bs
+  over-here = rw over-drop (take-append-seam bs (drop (at + length bs) s))
+
+  -- what stands behind them stays
+  pub over-behind : drop (at + length bs) (overwritten at bs s) ≡ drop (at + length bs) s
+  unfolding overwritten
+  over-behind = drop-at (take at s ++ bs) (drop (at + length bs) s) (at + length bs) written-long
+
+  -- all up to their end
+  pub over-take : take (at + length bs) (overwritten at bs s) ≡ take at s ++ bs
+  unfolding overwritten
+  over-take = take-at (take at s ++ bs) (drop (at + length bs) s) (at + length bs) written-long
+
+  -- the length: as it was, or up to the bytes' end
+  pub over-length : length (overwritten at bs s) ≡ at + length bs + (length s - (at + length bs))
+  unfolding overwritten
+  over-length = omega (arith, length-append (take at s ++ bs) (drop (at + length bs) s), written-long, length-drop (at + length bs) s)
+
+  -- bytes behind bytes
+  pub over-next : (cs : List ℕ) → overwritten (at + length bs) cs (overwritten at bs s) ≡ overwritten at (bs ++ cs) s
+  unfolding overwritten
+  over-next cs =
+      rw over-take′
+      (ap (λ (l : List ℕ). (take at s ++ bs) ++ cs ++ l) behind ∙ again)
+    where
+      over-take′ : take (at + length bs) (take at s ++ bs ++ drop (at + length bs) s) ≡ take at s ++ bs
+      over-take′ = take-at (take at s ++ bs) (drop (at + length bs) s) (at + length bs) written-long
+
+      behind : drop (at + length bs + length cs) (take at s ++ bs ++ drop (at + length bs) s) ≡ drop (at + length (bs ++ cs)) s
+      behind =
+          let end : at + length bs + length cs ≡ at + length (bs ++ cs) = omega (arith, length-append bs cs) in
+          sym (drop-drop (length cs) (at + length bs) (take at s ++ bs ++ drop (at + length bs) s))
+          ∙ ap (drop (length cs)) (drop-at (take at s ++ bs) (drop (at + length bs) s) (at + length bs) written-long)
+          ∙ drop-drop (length cs) (at + length bs) s
+          ∙ ap (λ (k : ℕ). drop k s) end
+
+      again : (take at s ++ bs) ++ cs ++ drop (at + length (bs ++ cs)) s ≡ take at s ++ (bs ++ cs) ++ drop (at + length (bs ++ cs)) s
+      again = simp append-assoc
+
+-- where the bytes lie within the list, its length stays
+pub over-long : (at : ℕ) (bs s : List ℕ) → at + length bs ≤ length s → length (overwritten at bs s) ≡ length s
+over-long at bs s h = omega (arith, over-length at bs s (omega arith))
+
+-- the same bytes again change nothing
+pub over-same : (at n : ℕ) (s : List ℕ) → at + n ≤ length s → overwritten at (take n (drop at s)) s ≡ s
+unfolding overwritten
+over-same at n s h =
+    let long : length (take n (drop at s)) ≡ n = omega (arith, length-take n (drop at s), length-drop at s) in
+    rw (long, append-assoc (take at s) (take n (drop at s)) (drop (at + n) s), ← drop-drop n at s, take-append-drop n (drop at s))
+    (take-append-drop at s)
+
