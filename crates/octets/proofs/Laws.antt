@@ -1,16 +1,17 @@
 -- Numbers as bytes and back: each way undoes the other, over any count of bytes. Assumes nothing.
 use mathlib.Core.Path.{_≡_, refl, sym, ap, ap₂, _∙_}
+use mathlib.Core.Bool.{true, false}
 use mathlib.Core.List.{List, [], _∷_, _++_}
 use Prim.Native.Nat.{ℕ, zero, suc, _+_, _*_, _/_, _%_, _^_, _≤_, _<_}
 use native.Mathlib.Nat.{pow-succ'}
 use native.Mathlib.Omega.{arith}
-use borrow.Author.Tests.{le-leb}
+use borrow.Author.Tests.{le-leb, leb-true}
 use lib.Dec.{T}
 use lib.Ieee.{Float, nan, fits, binary64, toBits, ofBits}
 use lib.Ieee.Bits.{ofBits-toBits, toBits-lt}
 use lib.ListN.{length, take, drop, getD, length-append, length-take, length-drop}
 use lib.Seq.{getD-take, getD-drop}
-use Rattle.octets.specs.Octets.{bytesOf, numberOf, overwritten, numberAt, withNumber}
+use Rattle.octets.specs.Octets.{bytesOf, numberOf, overwritten, lies, numberAt, withNumber}
 use Rattle.octets.specs.Needs.{Bytes}
 use Rattle.octets.proofs.Over.{over-long, over-here, over-same}
 
@@ -46,6 +47,12 @@ number-below (b ∷ bs) h =
     let rest : numberOf bs < 256 ^ length bs = number-below bs (λ i l. h (suc i) (omega arith)) in
     omega (arith, pow-succ' 256 (length bs))
 
+-- a part of a list of bytes holds bytes
+pub part-bytes : (n at : ℕ) (s : List ℕ) → Bytes s → at + n ≤ length s → Bytes (take n (drop at s))
+part-bytes n at s b h i l =
+    let long : length (take n (drop at s)) ≡ n = omega (arith, length-take n (drop at s), length-drop at s) in
+    rw (getD-take n (drop at s) i 0 (omega arith), getD-drop at s i 0) (b (at + i) (omega arith))
+
 -- ---- at a place of a list
 
 module _ (n at : ℕ) (s : List ℕ) (h : at + n ≤ length s) where
@@ -59,6 +66,22 @@ module _ (n at : ℕ) (s : List ℕ) (h : at + n ≤ length s) where
 
   fits-here : (x : ℕ) → at + length (bytesOf n x) ≤ length s
   fits-here x = omega (arith, bytes-long n x)
+
+-- by the test of the place
+module _ (n at : ℕ) (s : List ℕ) where
+  pub number-lies : lies n at s ≡ true → numberAt n at s ≡ numberOf (take n (drop at s))
+  number-lies e = number-here n at s (leb-true (at + n) (length s) e)
+
+  pub number-lacks : lies n at s ≡ false → numberAt n at s ≡ 0
+  unfolding numberAt
+  number-lacks e = rw e
+
+  pub with-lies : (x : ℕ) → lies n at s ≡ true → withNumber n at x s ≡ overwritten at (bytesOf n x) s
+  with-lies x e = with-here n at s (leb-true (at + n) (length s) e) x
+
+  pub with-lacks : (x : ℕ) → lies n at s ≡ false → withNumber n at x s ≡ s
+  unfolding withNumber
+  with-lacks x e = rw e
 
 -- what was put there is read there
 pub number-back : (n at x : ℕ) (s : List ℕ) → at + n ≤ length s → x < 256 ^ n → numberAt n at (withNumber n at x s) ≡ x
@@ -76,8 +99,7 @@ pub with-back : (n at : ℕ) (s : List ℕ) → Bytes s → at + n ≤ length s 
 with-back n at s b h =
     let part : List ℕ = take n (drop at s) in
     let long : length part ≡ n = omega (arith, length-take n (drop at s), length-drop at s) in
-    let bytes : Bytes part = λ (i : ℕ) (l : i < length part). rw (getD-take n (drop at s) i 0 (omega arith), getD-drop at s i 0) (b (at + i) (omega arith)) in
-    let same : bytesOf n (numberOf part) ≡ part = ap (λ (k : ℕ). bytesOf k (numberOf part)) (sym long) ∙ bytes-number part bytes in
+    let same : bytesOf n (numberOf part) ≡ part = ap (λ (k : ℕ). bytesOf k (numberOf part)) (sym long) ∙ bytes-number part (part-bytes n at s b h) in
     with-here n at s h (numberAt n at s)
     ∙ ap (λ (x : ℕ). overwritten at (bytesOf n x) s) (number-here n at s h)
     ∙ ap (λ (l : List ℕ). overwritten at l s) same

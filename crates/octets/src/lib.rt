@@ -1,15 +1,17 @@
 // Numbers and floats as bytes, low byte first, and back. Where the bytes do not all lie within a list, reading gives 0 and
 // writing changes nothing.
 ghost use mathlib.Core.Path.{_≡_};
-ghost use Prim.Native.Nat.{_+_, _≤_};
+ghost use Prim.Native.Nat.{_+_, _^_, _≤_, _<_};
+ghost use lib.Dec.{leb};
 ghost use lib.Ieee.{binary64, toBits, ofBits};
 ghost use lib.ListN.{length, take, drop};
-ghost use Rattle.octets.specs.Octets.{bytesOf, numberOf, overwritten, lies, numberAt, withNumber};
+ghost use Rattle.octets.specs.Octets.{bytesOf, numberOf, overwritten, numberAt, withNumber};
 
 pub mod float;
 
 // Whether n bytes lie within a list of `len` from a place on.
 fn lies_within(len: usize, at: usize, n: usize) -> bool
+    ensures { λ r. ⌜ r ≡ leb (at + n) len ⌝ }
 {
     if len < n {
         return false;
@@ -22,6 +24,7 @@ fn number_at(s: &[u8], at: usize, n: usize) -> u64
     requires { ⌜ at + n ≤ length (now s) ⌝ }
     requires { ⌜ n ≤ 8 ⌝ }
     ensures { λ r. ⌜ r ≡ numberOf (take n (drop at (now (s .entry)))) ⌝ }
+    ensures { λ r. ⌜ r < 256 ^ n ⌝ }
 {
     let mut x = 0;
     let mut i = n;
