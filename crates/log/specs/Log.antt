@@ -51,15 +51,25 @@ unfoldable pub joined : ℕ → (ℕ → List ℕ) → List ℕ
 joined zero g = []
 joined (suc n) g = joined n g ++ g n
 
--- what it gives: of every whole record the number, the five patterns "as they stand in the log", and the cut
+-- of record k: the number, the five patterns "as they stand in the log", and the cut
+abbrev pub numberOne : List ℕ → ℕ → List ℕ
+numberOne log k = numberField (recordIn log k) ∷ []
+
+abbrev pub patternsOne : List ℕ → ℕ → List ℕ
+patternsOne log k = patternFields (recordIn log k)
+
+abbrev pub cutOne : List ℕ → ℕ → List ℕ
+cutOne log k = cutField (recordIn log k) ∷ []
+
+-- "the reader then gives every whole record"
 abbrev pub numbersOf : List ℕ → List ℕ
-numbersOf log = joined (wholeRecords log) (λ (k : ℕ). numberField (recordIn log k) ∷ [])
+numbersOf log = joined (wholeRecords log) (numberOne log)
 
 abbrev pub patternsOf : List ℕ → List ℕ
-patternsOf log = joined (wholeRecords log) (λ (k : ℕ). patternFields (recordIn log k))
+patternsOf log = joined (wholeRecords log) (patternsOne log)
 
 abbrev pub cutsOf : List ℕ → List ℕ
-cutsOf log = joined (wholeRecords log) (λ (k : ℕ). cutField (recordIn log k) ∷ [])
+cutsOf log = joined (wholeRecords log) (cutOne log)
 
 -- scan: how many whole records
 abbrev pub scanOf : List ℕ → Answer ℕ
@@ -71,9 +81,9 @@ readFault log numbers bits cuts =
     logFault log
     orElse refusal 15 (ltb (length numbers) (wholeRecords log) || ltb (length bits) (wholeRecords log * patternCount) || ltb (length cuts) (wholeRecords log))
 
--- what a lent list holds at exit: "Places past the records stay"
+-- what a lent list holds at exit: the new from its first place on, and "Places past the records stay"
 abbrev pub readInto : ℕ → List ℕ → List ℕ → List ℕ
-readInto fault new old = lentAfter fault (new ++ drop (length new) old) old
+readInto fault new old = lentAfter fault (overwritten 0 new old) old
 
 -- ---- append
 
