@@ -1,10 +1,11 @@
 -- Bytes written over others: what stays, what stands there, and that bytes written behind others are written with them. Assumes nothing.
 use mathlib.Core.Path.{_≡_, refl, sym, ap, _∙_}
-use mathlib.Core.List.{List, [], _∷_, _++_, append-assoc}
-use Prim.Native.Nat.{ℕ, _+_, _-_, _≤_, _<_}
+use mathlib.Core.List.{List, [], _∷_, _++_, append-assoc, append-nil}
+use Prim.Native.Nat.{ℕ, suc, _+_, _-_, _≤_, _<_}
+use native.Mathlib.Nat.{add-zero}
 use native.Mathlib.Omega.{arith}
-use lib.ListN.{length, take, drop, length-append, length-take, length-drop, take-append-drop}
-use lib.Seq.{take-at, drop-at, take-append-le, drop-append-le, length-take-le, drop-drop, take-take, drop-append-add, take-append-seam}
+use lib.ListN.{length, take, drop, getD, set, length-append, length-take, length-drop, take-append-drop}
+use lib.Seq.{drop-cons, set-at, append-snoc, take-at, drop-at, take-append-le, drop-append-le, length-take-le, drop-drop, take-take, drop-append-add, take-append-seam}
 use Rattle.octets.specs.Octets.{overwritten}
 
 module _ (at : ℕ) (bs s : List ℕ) (h : at ≤ length s) where
@@ -66,6 +67,10 @@ module _ (at : ℕ) (bs s : List ℕ) (h : at ≤ length s) where
       again : (take at s ++ bs) ++ cs ++ drop (at + length (bs ++ cs)) s ≡ take at s ++ (bs ++ cs) ++ drop (at + length (bs ++ cs)) s
       again = simp append-assoc
 
+-- the same, where the place is known otherwise
+pub over-join : (at k : ℕ) (bs cs s : List ℕ) → at ≤ length s → k ≡ at + length bs → overwritten k cs (overwritten at bs s) ≡ overwritten at (bs ++ cs) s
+over-join at k bs cs s h e = rw e (over-next at bs s h cs)
+
 -- where the bytes lie within the list, its length stays
 pub over-long : (at : ℕ) (bs s : List ℕ) → at + length bs ≤ length s → length (overwritten at bs s) ≡ length s
 over-long at bs s h = omega (arith, over-length at bs s (omega arith))
@@ -78,3 +83,22 @@ over-same at n s h =
     rw (long, append-assoc (take at s) (take n (drop at s)) (drop (at + n) s), ← drop-drop n at s, take-append-drop n (drop at s))
     (take-append-drop at s)
 
+-- no byte changes nothing
+pub over-none : (at : ℕ) (s : List ℕ) → overwritten at [] s ≡ s
+unfolding overwritten
+over-none at s = rw (append-nil (take at s), add-zero at) (take-append-drop at s)
+
+-- a byte stored behind bytes is written with them
+pub over-set : (at : ℕ) (bs s : List ℕ) (b : ℕ) → at + length bs < length s → set (overwritten at bs s) (at + length bs) b ≡ overwritten at (bs ++ b ∷ []) s
+unfolding overwritten
+over-set at bs s b h =
+    let front : length (take at s ++ bs) ≡ at + length bs = omega (arith, length-append (take at s) bs, length-take-le at s (omega arith)) in
+    let end : at + length (bs ++ b ∷ []) ≡ suc (at + length bs) = omega (arith, length-append bs (b ∷ [])) in
+    ap (λ (l : List ℕ). set (take at s ++ bs ++ l) (at + length bs) b) (drop-cons s (at + length bs) 0 h)
+    ∙ set-at (take at s ++ bs) (getD s (at + length bs) 0) (drop (suc (at + length bs)) s) b (at + length bs) front
+    ∙ sym (append-snoc (take at s ++ bs) b (drop (suc (at + length bs)) s))
+    ∙ rw end (ap (λ (l : List ℕ). l ++ drop (suc (at + length bs)) s) (append-assoc (take at s) bs (b ∷ [])))
+
+-- one byte stored
+pub over-one : (at : ℕ) (s : List ℕ) (b : ℕ) → at < length s → set s at b ≡ overwritten at (b ∷ []) s
+over-one at s b h = rw (over-none at s, add-zero at) at (over-set at [] s b (omega arith))

@@ -1,12 +1,10 @@
 -- One byte more, for the loops that read and write a number. Assumes nothing.
-use mathlib.Core.Path.{_≡_, refl, sym, ap, _∙_}
-use mathlib.Core.List.{List, [], _∷_, _++_, append-assoc, append-nil}
-use Prim.Native.Nat.{ℕ, zero, suc, _+_, _*_, _/_, _%_, _≤_, _<_}
-use native.Mathlib.Nat.{add-zero}
-use native.Mathlib.Omega.{arith}
-use lib.ListN.{length, take, drop, getD, set, length-append, take-append-drop}
-use lib.Seq.{drop-cons, set-at, append-snoc, length-take-le}
-use Rattle.octets.specs.Octets.{bytesOf, numberOf, overwritten}
+use mathlib.Core.Path.{_≡_, refl, ap}
+use mathlib.Core.List.{List, [], _∷_, _++_}
+use Prim.Native.Nat.{ℕ, zero, suc, _+_, _*_, _/_, _%_, _<_}
+use lib.ListN.{length, take, drop, getD}
+use lib.Seq.{drop-cons}
+use Rattle.octets.specs.Octets.{bytesOf, numberOf}
 
 -- no byte
 pub number-none : (s : List ℕ) → 0 ≡ numberOf (take 0 s)
@@ -38,18 +36,6 @@ unfolding bytesOf higher
 bytes-more zero x = refl
 bytes-more (suc n) x = ap (λ (l : List ℕ). x % 256 ∷ l) (bytes-more n (x / 256))
 
--- a byte stored behind bytes is written with them
-pub over-set : (at : ℕ) (bs s : List ℕ) (b : ℕ) → at + length bs < length s → set (overwritten at bs s) (at + length bs) b ≡ overwritten at (bs ++ b ∷ []) s
-unfolding overwritten
-over-set at bs s b h =
-    let front : length (take at s ++ bs) ≡ at + length bs = omega (arith, length-append (take at s) bs, length-take-le at s (omega arith)) in
-    let end : at + length (bs ++ b ∷ []) ≡ suc (at + length bs) = omega (arith, length-append bs (b ∷ [])) in
-    ap (λ (l : List ℕ). set (take at s ++ bs ++ l) (at + length bs) b) (drop-cons s (at + length bs) 0 h)
-    ∙ set-at (take at s ++ bs) (getD s (at + length bs) 0) (drop (suc (at + length bs)) s) b (at + length bs) front
-    ∙ sym (append-snoc (take at s ++ bs) b (drop (suc (at + length bs)) s))
-    ∙ rw end (ap (λ (l : List ℕ). l ++ drop (suc (at + length bs)) s) (append-assoc (take at s) bs (b ∷ [])))
-
--- no byte changes nothing
-pub over-none : (at x : ℕ) (s : List ℕ) → overwritten at (bytesOf 0 x) s ≡ s
-unfolding overwritten bytesOf
-over-none at x s = rw (append-nil (take at s), add-zero at) (take-append-drop at s)
+pub bytes-none : (x : ℕ) → bytesOf 0 x ≡ []
+unfolding bytesOf
+bytes-none x = refl

@@ -2,15 +2,15 @@
 -- nothing.
 use mathlib.Core.Path.{_≡_, refl, sym, ap, _∙_}
 use mathlib.Core.List.{List}
-use Prim.Native.Nat.{ℕ, suc, _+_, _-_, _%_, _≤_, _<_}
+use Prim.Native.Nat.{ℕ, _+_, _-_, _%_, _≤_}
 use native.Mathlib.Numerals.{add-one}
 use native.Mathlib.Omega.{arith}
 use borrow.Author.Needs.{needs}
 use lib.ListN.{length, length-set}
 use Rattle.octets.specs.Octets.{bytesOf, overwritten}
 use Rattle.octets.proofs.Laws.{bytes-long}
-use Rattle.octets.proofs.Over.{over-long}
-use Rattle.octets.proofs.Steps.{higher, higher-none, higher-next, bytes-more, over-set, over-none}
+use Rattle.octets.proofs.Over.{over-none, over-set}
+use Rattle.octets.proofs.Steps.{higher, higher-none, higher-next, bytes-none, bytes-more}
 use Rattle.octets.proofs.put_number.Statement.{statement}
 use Rattle.octets.proofs.put_number.Tie as tie
 
@@ -21,7 +21,7 @@ abbrev μ-loop : tie.MeasureT-loop
 μ-loop s₀ at n x rest₀ i₀ s rest i = n - i
 
 loop-holds : tie.Need-loop-holds Inv-loop μ-loop
-loop-holds c = (omega arith, (refl, (sym (over-none (c .args .at) (c .args .x) (c .args .s .now)), higher-none (c .args .x))))
+loop-holds c = (omega arith, (refl, (sym (ap (λ (l : List ℕ). overwritten (c .args .at) l (c .args .s .now)) (bytes-none (c .args .x)) ∙ over-none (c .args .at) (c .args .s .now)), higher-none (c .args .x))))
 
 cast-s : tie.Need-cast-s Inv-loop μ-loop
 cast-s c = search needs
