@@ -3,10 +3,10 @@
 use mathlib.Core.Path.{_≡_}
 use mathlib.Core.Bool.{cond}
 use mathlib.Core.List.{List, [], _∷_, _++_}
-use Prim.Native.Nat.{ℕ, _+_, _*_, _≤_, _<_, _^_}
+use Prim.Native.Nat.{ℕ, _+_, _*_, _≤_, _<_, _^_, max}
 use lib.Dec.{T, eqb}
 use lib.Ieee.{binary64, fits}
-use lib.ListN.{length, take, drop, max}
+use lib.ListN.{take, drop}
 use Rattle.octets.specs.Octets.{overwritten}
 use Rattle.log.specs.declared.Record.{Record}
 use Rattle.log.specs.Records.{recordLong, patterns, recordBytes}
@@ -99,3 +99,28 @@ pub record EndAlone (log : List ℕ) (j : ℕ) : Type 0 where
 
 abbrev pub EndWillDo : Type 0
 EndWillDo = (log : List ℕ) (j : ℕ) → logFault log ≡ 0 → j < wholeRecords log → EndAlone log j
+
+-- 8. A card's life: appends one after the other, each of which the power may cut after k of its bytes.
+pub record Try : Type 0 where
+  pub what : Record
+  pub bytes : ℕ
+
+unfoldable pub cardAfter : List ℕ → List Try → List ℕ
+cardAfter log [] = log
+cardAfter log (t ∷ ts) = cardAfter (cutShort (t .bytes) log (t .what)) ts
+
+-- each is one that the card takes at its time
+unfoldable pub AllTaken : List ℕ → List Try → Type 0
+AllTaken log [] = logFault log ≡ 0
+AllTaken log (t ∷ ts) = Typed (t .what) × (Takes log (t .what) × ((t .bytes ≤ recordLong) × AllTaken (cutShort (t .bytes) log (t .what)) ts))
+
+-- what was written whole is read, in order; what was cut short leaves a rest at most
+abbrev pub readAfter : Reading → Try → Reading
+readAfter g t = cond (eqb (t .bytes) recordLong) (andRecord g (t .what)) (andRest g (max (t .bytes) (g .torn)))
+
+unfoldable pub readAll : Reading → List Try → Reading
+readAll g [] = g
+readAll g (t ∷ ts) = readAll (readAfter g t) ts
+
+abbrev pub CardsLife : Type 0
+CardsLife = (log : List ℕ) (ts : List Try) → AllTaken log ts → (logFault (cardAfter log ts) ≡ 0) × (readingOf (cardAfter log ts) ≡ readAll (readingOf log) ts)
