@@ -1,0 +1,93 @@
+-- The bytes of a record: there are 47, and each field is read back from them. Assumes nothing.
+use mathlib.Core.Path.{_≡_, refl, sym, ap, _∙_}
+use mathlib.Core.Bool.{true}
+use mathlib.Core.List.{List, [], _∷_, _++_, append-assoc}
+use Prim.Native.Nat.{ℕ, zero, suc, _+_, _*_, _^_, _<_}
+use native.Mathlib.Omega.{arith}
+use lib.Ieee.{nan, binary64, toBits}
+use lib.ListN.{length, take, drop, getD, length-append}
+use lib.Seq.{take-at, drop-at, getD-at}
+use Rattle.octets.specs.Octets.{bytesOf, numberOf}
+use Rattle.octets.proofs.Laws.{bytes-long, number-bytes, nan-pattern, bits-below}
+use Rattle.log.specs.declared.Record.{Record}
+use Rattle.log.specs.Records.{recordLong, numberLong, patternsPlace, patternLong, patternCount, patterns, patternBytes, recordBytes, hasMark, field, numberField, patternFields, cutField}
+use Rattle.log.specs.Promises.{Typed}
+
+-- ---- a field among other bytes
+
+-- a number that n bytes hold is read back from behind a front, whatever follows
+field-back : (n at x : ℕ) (front back : List ℕ) → length front ≡ at → x < 256 ^ n → field n at (front ++ (bytesOf n x ++ back)) ≡ x
+field-back n at x front back long h =
+    rw (drop-at front (bytesOf n x ++ back) at long, take-at (bytesOf n x) back n (bytes-long n x)) (number-bytes n x h)
+
+pub patterns-long : (ps : List ℕ) → length (patternBytes ps) ≡ patternLong * length ps
+unfolding patternBytes
+patterns-long [] = refl
+patterns-long (p ∷ ps) = omega (arith, length-append (bytesOf patternLong p) (patternBytes ps), bytes-long patternLong p, patterns-long ps)
+
+-- every pattern fits its bytes
+abbrev AllFit : List ℕ → Type 0
+AllFit [] = Unit {0}
+AllFit (p ∷ ps) = (p < 256 ^ patternLong) × AllFit ps
+
+-- pattern j of a list is read back from its place
+pattern-back : (ps : List ℕ) (j at : ℕ) (front back : List ℕ) → length front ≡ at → AllFit ps → j < length ps
+    → field patternLong (at + patternLong * j) (front ++ (patternBytes ps ++ back)) ≡ getD ps j 0
+unfolding patternBytes
+pattern-back [] j at front back long fit l = absurd (omega arith)
+pattern-back (p ∷ ps) zero at front back long fit l =
+    rw append-assoc (field-back patternLong (at + patternLong * 0) p front (patternBytes ps ++ back) (omega arith) (fit .0))
+pattern-back (p ∷ ps) (suc j) at front back long fit l =
+    let next : at + patternLong * suc j ≡ at + patternLong + patternLong * j = omega arith in
+    let farther : length (front ++ bytesOf patternLong p) ≡ at + patternLong
+    = omega (arith, length-append front (bytesOf patternLong p), bytes-long patternLong p) in
+    ap (λ (k : ℕ). field patternLong k (front ++ (bytesOf patternLong p ++ patternBytes ps ++ back))) next
+    ∙ ap (field patternLong (at + patternLong + patternLong * j)) (simp append-assoc)
+    ∙ pattern-back ps j (at + patternLong) (front ++ bytesOf patternLong p) back farther (fit .1) (omega arith)
+
+-- ---- a record's bytes
+
+abbrev head : Record → List ℕ
+head r = 0x53 ∷ 0x43 ∷ bytesOf numberLong (r .number)
+
+head-long : (r : Record) → length (head r) ≡ patternsPlace
+head-long r = omega (arith, bytes-long numberLong (r .number))
+
+pub record-long : (r : Record) → length (recordBytes r) ≡ recordLong
+unfolding recordBytes
+record-long r =
+    omega (arith, length-append (head r ++ patternBytes (patterns r)) (r .cut ∷ []), length-append (head r) (patternBytes (patterns r)),
+    head-long r, patterns-long (patterns r))
+
+pub mark-back : (r : Record) → hasMark (recordBytes r) ≡ true
+unfolding recordBytes
+mark-back r = refl
+
+pub cut-back : (r : Record) → cutField (recordBytes r) ≡ r .cut
+unfolding recordBytes
+cut-back r =
+    getD-at (head r ++ patternBytes (patterns r)) (r .cut) [] 0 46
+    (omega (arith, length-append (head r) (patternBytes (patterns r)), head-long r, patterns-long (patterns r)))
+
+module _ (r : Record) (t : Typed r) where
+  pub number-back : numberField (recordBytes r) ≡ r .number
+  unfolding recordBytes
+  number-back = rw append-assoc (field-back numberLong 2 (r .number) (0x53 ∷ 0x43 ∷ []) (patternBytes (patterns r) ++ r .cut ∷ []) refl (t .number))
+
+  all-fit : AllFit (patterns r)
+  all-fit =
+      (bits-below (r .«inter_cost») (t .inter), (bits-below (r .«imp_block_cost») (t .importance), (bits-below (r .«backward_adjusted_cost») (t .backward),
+      (bits-below (r .«forward_adjusted_cost») (t .forward), (bits-below (r .threshold) (t .limit), tt)))))
+
+  pattern-here : (j : ℕ) → j < patternCount → field patternLong (patternsPlace + patternLong * j) (recordBytes r) ≡ getD (patterns r) j 0
+  unfolding recordBytes
+  pattern-here j l = rw append-assoc (pattern-back (patterns r) j patternsPlace (head r) (r .cut ∷ []) (head-long r) all-fit l)
+
+  pub patterns-back : patternFields (recordBytes r) ≡ patterns r
+  unfolding patternFields
+  patterns-back =
+      rw (pattern-here 0 (omega arith), pattern-here 1 (omega arith), pattern-here 2 (omega arith), pattern-here 3 (omega arith), pattern-here 4 (omega arith))
+
+-- "NaNs are written as 7FF8000000000000 (hex)": so it stands in the bytes of a record
+pub nan-written : (r : Record) → Typed r → r .«inter_cost» ≡ nan → field patternLong patternsPlace (recordBytes r) ≡ 0x7FF8_0000_0000_0000
+nan-written r t e = pattern-here r t 0 (omega arith) ∙ ap (toBits binary64) e ∙ nan-pattern
