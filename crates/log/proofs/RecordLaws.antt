@@ -1,16 +1,20 @@
 -- The bytes of a record: there are 47, and each field is read back from them. Assumes nothing.
 use mathlib.Core.Path.{_≡_, refl, sym, ap, _∙_}
-use mathlib.Core.Bool.{true}
+use mathlib.Core.Bool.{true, false, not}
 use mathlib.Core.List.{List, [], _∷_, _++_, append-assoc}
-use Prim.Native.Nat.{ℕ, zero, suc, _+_, _*_, _^_, _<_}
+use Prim.Native.Nat.{ℕ, zero, suc, _+_, _*_, _^_, _≤_, _<_}
 use native.Mathlib.Omega.{arith}
+use borrow.Author.Tests.{ltb-false, le-ltb}
+use lib.Dec.{ltb}
 use lib.Ieee.{nan, binary64, toBits}
 use lib.ListN.{length, take, drop, getD, length-append}
 use lib.Seq.{take-at, drop-at, getD-at}
+use Rattle.answer.specs.Refusal.{refusal, _orElse_}
+use Rattle.answer.proofs.Laws.{or-none, or-later, passed, test-passed}
 use Rattle.octets.specs.Octets.{bytesOf, numberOf}
 use Rattle.octets.proofs.Laws.{bytes-long, number-bytes, nan-pattern, bits-below}
 use Rattle.log.specs.declared.Record.{Record}
-use Rattle.log.specs.Records.{recordLong, numberLong, patternsPlace, patternLong, patternCount, patterns, patternBytes, recordBytes, hasMark, field, numberField, patternFields, cutField}
+use Rattle.log.specs.Records.{recordLong, numberLong, patternsPlace, patternLong, patternCount, patterns, patternBytes, recordBytes, hasMark, field, numberField, patternFields, cutField, bytesFault}
 use Rattle.log.specs.Promises.{Typed}
 
 -- ---- a field among other bytes
@@ -88,6 +92,28 @@ module _ (r : Record) (t : Typed r) where
   patterns-back =
       rw (pattern-here 0 (omega arith), pattern-here 1 (omega arith), pattern-here 2 (omega arith), pattern-here 3 (omega arith), pattern-here 4 (omega arith))
 
--- "NaNs are written as 7FF8000000000000 (hex)": so it stands in the bytes of a record
-pub nan-written : (r : Record) → Typed r → r .«inter_cost» ≡ nan → field patternLong patternsPlace (recordBytes r) ≡ 0x7FF8_0000_0000_0000
-nan-written r t e = pattern-here r t 0 (omega arith) ∙ ap (toBits binary64) e ∙ nan-pattern
+-- "NaNs are written as 7FF8000000000000 (hex)": whichever of the five is one, this is read in its place
+pub nan-written : (r : Record) → Typed r → (j : ℕ) → j < patternCount → getD (patterns r) j 0 ≡ toBits binary64 nan
+    → field patternLong (patternsPlace + patternLong * j) (recordBytes r) ≡ 0x7FF8_0000_0000_0000
+nan-written r t j l e = pattern-here r t j l ∙ e ∙ nan-pattern
+
+-- ---- a record's fault
+
+-- a record that rises above a number rises above a lower one
+pub fault-lower : (low high : ℕ) (bs : List ℕ) → low ≤ high → bytesFault high bs ≡ 0 → bytesFault low bs ≡ 0
+unfolding bytesFault
+fault-lower low high bs l e =
+    let (mark, later) = or-none (refusal 12 (not (hasMark bs))) (refusal 13 (ltb 1 (cutField bs)) orElse refusal 14 (ltb (numberField bs) high)) e in
+    let (cut, number) = or-none (refusal 13 (ltb 1 (cutField bs))) (refusal 14 (ltb (numberField bs) high)) later in
+    let rises : ltb (numberField bs) low ≡ false
+    = le-ltb (numberField bs) low (omega (arith, ltb-false (numberField bs) high (passed 13 (ltb (numberField bs) high) number))) in
+    sym (or-later 0 (refusal 12 (not (hasMark bs))) (refusal 13 (ltb 1 (cutField bs)) orElse refusal 14 (ltb (numberField bs) low)) (sym mark)
+    (or-later 0 (refusal 13 (ltb 1 (cutField bs))) (refusal 14 (ltb (numberField bs) low)) (sym cut) (test-passed 14 (ltb (numberField bs) low) rises)))
+
+-- a record as it is written is at fault as the new one is
+pub fault-written : (r : Record) → Typed r → (least : ℕ)
+    → bytesFault least (recordBytes r) ≡ refusal 13 (ltb 1 (r .cut)) orElse refusal 14 (ltb (r .number) least)
+unfolding bytesFault
+fault-written r t least =
+    rw (mark-back r, cut-back r, number-back r t)
+    (sym (or-later (refusal 13 (ltb 1 (r .cut)) orElse refusal 14 (ltb (r .number) least)) 0 (refusal 13 (ltb 1 (r .cut)) orElse refusal 14 (ltb (r .number) least)) refl refl))
