@@ -172,3 +172,11 @@ module _ (log : List ℕ) (j : ℕ) where
       let there : recordFault log (j + k) ≡ 0 = earliest-each (wholeRecords log) (recordFault log) e (j + k) (omega (arith, end-records h)) in
       ap (bytesFault (leastAfter end k)) (end-record k)
       ∙ fault-lower (leastAfter end k) (leastAfter log (j + k)) (recordIn log (j + k)) (least-lower k) there)
+
+  -- behind its last one too
+  pub end-rises : j < wholeRecords log → leastAfter end (wholeRecords end) ≡ leastAfter log (wholeRecords log)
+  end-rises h =
+      let k : ℕ = wholeRecords log - suc j in
+      let last : wholeRecords end ≡ suc k = omega (arith, end-records (omega arith)) in
+      let whole : suc (j + k) ≡ wholeRecords log = omega arith in
+      ap (leastAfter end) last ∙ end-least k ∙ ap (leastAfter log) whole
