@@ -3,15 +3,16 @@ use mathlib.Core.Path.{_≡_, refl, sym, ap, ap₂, _∙_}
 use mathlib.Core.List.{List, [], _∷_, _++_}
 use Prim.Native.Nat.{ℕ, zero, suc, _+_, _-_, _*_, _≤_, _<_, max}
 use native.Mathlib.Decide.{ℕ-discrete}
+use native.Mathlib.Nat.{mul-le-mul-right}
 use native.Mathlib.Omega.{arith}
-use lib.ListN.{length, take, drop, length-drop}
-use lib.Seq.{take-take, drop-drop}
+use lib.ListN.{length, take, drop, getD, length-append, length-drop, List·getD-append}
+use lib.Seq.{take-take, drop-drop, getD-append-add}
 use Rattle.answer.specs.Refusal.{_orElse_}
-use Rattle.answer.proofs.Laws.{or-none, or-later}
+use Rattle.answer.proofs.Laws.{or-none, or-both}
 use Rattle.octets.specs.Octets.{overwritten}
 use Rattle.octets.proofs.Over.{over-front, over-here, over-length}
-use Rattle.log.specs.Records.{recordLong, numberField, bytesFault}
-use Rattle.log.specs.Log.{wholeRecords, tornRest, wholeLong, recordIn, leastAfter, recordFault, earliest, logFault, joined}
+use Rattle.log.specs.Records.{recordLong, patternCount, numberField, patternFields, cutField, bytesFault}
+use Rattle.log.specs.Log.{wholeRecords, tornRest, wholeLong, recordIn, leastAfter, recordFault, earliest, logFault, joined, numbersOf, patternsOf, cutsOf}
 use Rattle.log.proofs.RecordLaws.{fault-lower}
 
 -- ---- place by place
@@ -25,6 +26,25 @@ pub joined-next : (n : ℕ) (g : ℕ → List ℕ) → joined (suc n) g ≡ join
 unfolding joined
 joined-next n g = refl
 
+-- lists of one length, one behind the other: element j of list k
+module _ (w : ℕ) (g : ℕ → List ℕ) (long : (k : ℕ) → length (g k) ≡ w) where
+  pub joined-long : (n : ℕ) → length (joined n g) ≡ n * w
+  unfolding joined
+  joined-long zero = omega arith
+  joined-long (suc n) = omega (arith, length-append (joined n g) (g n), joined-long n, long n)
+
+  pub joined-place : (n k j : ℕ) → k < n → j < w → getD (joined n g) (k * w + j) 0 ≡ getD (g k) j 0
+  unfolding joined
+  joined-place zero k j l h = absurd (omega arith)
+  joined-place (suc n) k j l h = here (joined-place n k j) (ℕ-discrete k n)
+    where
+      here : (k < n → j < w → getD (joined n g) (k * w + j) 0 ≡ getD (g k) j 0) → Dec (k ≡ n) → getD (joined n g ++ g n) (k * w + j) 0 ≡ getD (g k) j 0
+      here before (yes is) =
+          rw is (ap (λ (m : ℕ). getD (joined n g ++ g n) (m + j) 0) (sym (joined-long n)) ∙ getD-append-add (joined n g) (g n) j 0)
+      here before (no isn't) =
+          let less : k < n = omega arith in
+          List·getD-append (joined n g) (g n) 0 (k * w + j) (omega (arith, joined-long n, mul-le-mul-right w less)) ∙ before less h
+
 pub earliest-same : (n : ℕ) (f g : ℕ → ℕ) → ((k : ℕ) → k < n → f k ≡ g k) → earliest n f ≡ earliest n g
 unfolding earliest
 earliest-same zero f g e = refl
@@ -32,13 +52,13 @@ earliest-same (suc n) f g e = ap₂ (λ (a b : ℕ). a orElse b) (earliest-same 
 
 pub earliest-next : (n : ℕ) (f : ℕ → ℕ) → earliest n f ≡ 0 → f n ≡ 0 → earliest (suc n) f ≡ 0
 unfolding earliest
-earliest-next n f e d = sym (or-later 0 (earliest n f) (f n) (sym e) (sym d))
+earliest-next n f e d = or-both (earliest n f) (f n) e d
 
 -- where no place is at fault, none is the earliest
 pub earliest-none : (n : ℕ) (f : ℕ → ℕ) → ((k : ℕ) → k < n → f k ≡ 0) → earliest n f ≡ 0
 unfolding earliest
 earliest-none zero f e = refl
-earliest-none (suc n) f e = sym (or-later 0 (earliest n f) (f n) (sym (earliest-none n f (λ k l. e k (omega arith)))) (sym (e n (omega arith))))
+earliest-none (suc n) f e = earliest-next n f (earliest-none n f (λ k l. e k (omega arith))) (e n (omega arith))
 
 -- and where there is no earliest, no place is
 pub earliest-each : (n : ℕ) (f : ℕ → ℕ) → earliest n f ≡ 0 → (k : ℕ) → k < n → f k ≡ 0
@@ -78,6 +98,25 @@ module _ (s t : List ℕ) (n : ℕ) (same : take (n * recordLong) s ≡ take (n 
 
   pub fields-same : (g : List ℕ → List ℕ) → joined n (λ k. g (recordIn s k)) ≡ joined n (λ k. g (recordIn t k))
   fields-same g = joined-same n (λ k. g (recordIn s k)) (λ k. g (recordIn t k)) (λ k l. ap g (record-same k l))
+
+-- ---- what the reader gives, by its places: numbers[k], bits[5 * k + j], cuts[k]
+
+module _ (log : List ℕ) (k : ℕ) (l : k < wholeRecords log) where
+  single-at : (f : List ℕ → ℕ) → getD (joined (wholeRecords log) (λ i. f (recordIn log i) ∷ [])) k 0 ≡ f (recordIn log k)
+  single-at f =
+      let place : k ≡ k * 1 + 0 = omega arith in
+      ap (λ (m : ℕ). getD (joined (wholeRecords log) (λ i. f (recordIn log i) ∷ [])) m 0) place
+      ∙ joined-place 1 (λ i. f (recordIn log i) ∷ []) (λ i. refl) (wholeRecords log) k 0 l (omega arith)
+
+  pub number-at : getD (numbersOf log) k 0 ≡ numberField (recordIn log k)
+  number-at = single-at (λ bs. numberField bs)
+
+  pub pattern-at : (j : ℕ) → j < patternCount → getD (patternsOf log) (k * patternCount + j) 0 ≡ getD (patternFields (recordIn log k)) j 0
+  unfolding patternFields
+  pattern-at j h = joined-place patternCount (λ i. patternFields (recordIn log i)) (λ i. refl) (wholeRecords log) k j l h
+
+  pub cut-at : getD (cutsOf log) k 0 ≡ cutField (recordIn log k)
+  cut-at = single-at (λ bs. cutField bs)
 
 -- ---- bytes written behind the last whole record
 

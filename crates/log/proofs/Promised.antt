@@ -1,24 +1,24 @@
 -- The proofs of what specs/Promises.antt promises a recorder's author. Assumes nothing.
-use mathlib.Core.Path.{_≡_, refl, sym, ap, ap₂, _∙_}
+use mathlib.Core.Path.{_≡_, refl, sym, ap, _∙_}
 use mathlib.Core.Bool.{Bool, true, false, cond}
 use mathlib.Core.List.{List, [], _∷_, _++_}
-use Prim.Native.Nat.{ℕ, suc, _+_, _*_, _≤_, _<_, max}
+use Prim.Native.Nat.{ℕ, _+_, _*_, _≤_, _<_, max}
 use native.Mathlib.Omega.{arith}
-use borrow.Author.Tests.{eqb-true, eqb-false, ltb-false}
+use borrow.Author.Tests.{eqb-true, eqb-false}
 use lib.Dec.{eqb, ltb}
 use lib.ListN.{length, take, drop, length-take}
 use lib.Seq.{take-all, take-take, length-take-le}
 use Rattle.answer.specs.Refusal.{refusal, _orElse_}
-use Rattle.answer.specs.Answer.{lentAfter}
-use Rattle.answer.proofs.Laws.{or-none, passed, lent-written, lent-kept}
+use Rattle.answer.proofs.Laws.{or-none, lent-written, lent-kept}
 use Rattle.octets.specs.Octets.{overwritten}
 use Rattle.octets.proofs.Over.{over-take, over-past, over-again, over-end, over-rest}
 use Rattle.log.specs.declared.Record.{Record}
-use Rattle.log.specs.Records.{recordLong, patterns, recordBytes, numberField, patternFields, cutField, bytesFault}
-use Rattle.log.specs.Log.{wholeRecords, tornRest, wholeLong, leastAfter, logFault, numbersOf, patternsOf, cutsOf, newFault, appendFault, appended, lentAfterAppend}
-use Rattle.log.specs.Promises.{Reading, readingOf, andRecord, andRest, Takes, Typed, cutShort, Leaves, AppendLeaves, RoundTrip, StaysALog, PowerCut, AfterTheCut}
-use Rattle.log.specs.Promises.{NothingOnRefusal, EndAlone, EndWillDo, Try, cardAfter, AllTaken, readAfter, readAll, CardsLife}
-use Rattle.log.proofs.RecordLaws.{record-long, number-back, patterns-back, cut-back, fault-written}
+use Rattle.log.specs.Records.{recordLong, patterns, recordBytes, numberField, patternFields, cutField}
+use Rattle.log.specs.Log.{wholeRecords, tornRest, wholeLong, leastAfter, logFault, numbersOf, patternsOf, cutsOf}
+use Rattle.log.specs.Log.{newFault, appendFault, appended, lentAfterAppend}
+use Rattle.log.specs.Promises.{Reading, readingOf, andRecord, andRest, cutShort, cardAfter, AllTaken, readAll}
+use Rattle.log.specs.Promises.{AppendLeaves, RoundTrip, StaysALog, PowerCut, AfterTheCut, NothingOnRefusal, EndWillDo, CardsLife}
+use Rattle.log.proofs.RecordLaws.{record-long, number-back, patterns-back, cut-back, laterFault, fault-written}
 use Rattle.log.proofs.LogLaws.{records-stay, rest-reaches, fault-stays, least-stays, fields-stay, no-rest, fault-more, fields-more}
 use Rattle.log.proofs.LogLaws.{end-records, end-rises, end-accepted}
 
@@ -88,7 +88,7 @@ unfolding newFault
 after-the-cut log r next k l = (fault, bytes)
   where
     fault : newFault (cutShort k log r) next ≡ newFault log next
-    fault = ap (λ (least : ℕ). refusal 13 (ltb 1 (next .cut)) orElse refusal 14 (ltb (next .number) least)) (least-stays log (part log r k l) (short log r k l))
+    fault = ap (laterFault (next .cut) (next .number)) (least-stays log (part log r k l) (short log r k l))
 
     bytes : appended (cutShort k log r) next ≡ appended log next
     bytes =
@@ -106,12 +106,6 @@ cards-life log (t ∷ ts) taken =
 
 -- ---- in lent memory
 
--- It holds since what a refused call leaves in a lent place is what stood there.
-pub nothing-on-refusal : NothingOnRefusal
-nothing-on-refusal =
-    (λ lent used r h. sym (lent-kept (appendFault lent used r) (appendFault lent used r) (overwritten (wholeLong (take used lent)) (recordBytes r) lent) lent refl h),
-    λ fault new old h. sym (lent-kept fault fault (new ++ drop (length new) old) old refl h))
-
 module _ (lent : List ℕ) (used : ℕ) (r : Record) where
   abbrev place : ℕ
   place = wholeLong (take used lent)
@@ -128,6 +122,12 @@ module _ (lent : List ℕ) (used : ℕ) (r : Record) where
 
   behind-there : drop (place + recordLong) written ≡ drop (place + recordLong) lent
   behind-there = over-past place (recordBytes r) lent (place + recordLong) (omega (arith, length-take used lent)) (omega (arith, record-long r))
+
+-- It holds since what a refused call leaves in a lent place is what stood there.
+pub nothing-on-refusal : NothingOnRefusal
+nothing-on-refusal =
+    (λ lent used r h. sym (lent-kept (appendFault lent used r) (appendFault lent used r) (written lent used r) lent refl h),
+    λ fault new old h. sym (lent-kept fault fault (new ++ drop (length new) old) old refl h))
 
 -- It holds since the record ends the log so far, and in the lent memory it stands at the same place.
 pub append-leaves : AppendLeaves
@@ -149,9 +149,12 @@ pub end-will-do : EndWillDo
 unfolding newFault
 end-will-do log j e l = record {
   accepted = end-accepted log j (omega arith) e;
-  same-fault = λ r. ap (λ (least : ℕ). refusal 13 (ltb 1 (r .cut)) orElse refusal 14 (ltb (r .number) least)) (end-rises log j l);
-  same-bytes = λ r. ap (λ (n : ℕ). overwritten n (recordBytes r) log) place ∙ over-rest (j * recordLong) (wholeLong (drop (j * recordLong) log)) (recordBytes r) log;
+  same-fault = λ r. ap (laterFault (r .cut) (r .number)) (end-rises log j l);
+  same-bytes = λ r. ap (λ (n : ℕ). overwritten n (recordBytes r) log) there ∙ over-rest front (wholeLong (drop front log)) (recordBytes r) log;
 }
   where
-    place : wholeLong log ≡ j * recordLong + wholeLong (drop (j * recordLong) log)
-    place = omega (arith, end-records log j (omega arith))
+    front : ℕ
+    front = j * recordLong
+
+    there : wholeLong log ≡ front + wholeLong (drop front log)
+    there = omega (arith, end-records log j (omega arith))

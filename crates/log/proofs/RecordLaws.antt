@@ -1,20 +1,21 @@
 -- The bytes of a record: there are 47, and each field is read back from them. Assumes nothing.
 use mathlib.Core.Path.{_≡_, refl, sym, ap, _∙_}
-use mathlib.Core.Bool.{true, false, not}
+use mathlib.Core.Bool.{true, not}
 use mathlib.Core.List.{List, [], _∷_, _++_, append-assoc}
 use Prim.Native.Nat.{ℕ, zero, suc, _+_, _*_, _^_, _≤_, _<_}
 use native.Mathlib.Omega.{arith}
 use borrow.Author.Tests.{ltb-false, le-ltb}
 use lib.Dec.{ltb}
 use lib.Ieee.{nan, binary64, toBits}
-use lib.ListN.{length, take, drop, getD, length-append}
+use lib.ListN.{length, getD, length-append}
 use lib.Seq.{take-at, drop-at, getD-at}
 use Rattle.answer.specs.Refusal.{refusal, _orElse_}
-use Rattle.answer.proofs.Laws.{or-none, or-later, passed, test-passed}
-use Rattle.octets.specs.Octets.{bytesOf, numberOf}
+use Rattle.answer.proofs.Laws.{or-none, or-both, or-later, passed}
+use Rattle.octets.specs.Octets.{bytesOf}
 use Rattle.octets.proofs.Laws.{bytes-long, number-bytes, nan-pattern, bits-below}
 use Rattle.log.specs.declared.Record.{Record}
-use Rattle.log.specs.Records.{recordLong, numberLong, patternsPlace, patternLong, patternCount, patterns, patternBytes, recordBytes, hasMark, field, numberField, patternFields, cutField, bytesFault}
+use Rattle.log.specs.Records.{recordLong, numberPlace, numberLong, patternsPlace, patternLong, patternCount, cutPlace, patterns, patternBytes, recordBytes}
+use Rattle.log.specs.Records.{hasMark, field, numberField, patternFields, cutField, bytesFault}
 use Rattle.log.specs.Promises.{Typed}
 
 -- ---- a field among other bytes
@@ -70,13 +71,13 @@ mark-back r = refl
 pub cut-back : (r : Record) → cutField (recordBytes r) ≡ r .cut
 unfolding recordBytes
 cut-back r =
-    getD-at (head r ++ patternBytes (patterns r)) (r .cut) [] 0 46
+    getD-at (head r ++ patternBytes (patterns r)) (r .cut) [] 0 cutPlace
     (omega (arith, length-append (head r) (patternBytes (patterns r)), head-long r, patterns-long (patterns r)))
 
 module _ (r : Record) (t : Typed r) where
   pub number-back : numberField (recordBytes r) ≡ r .number
   unfolding recordBytes
-  number-back = rw append-assoc (field-back numberLong 2 (r .number) (0x53 ∷ 0x43 ∷ []) (patternBytes (patterns r) ++ r .cut ∷ []) refl (t .number))
+  number-back = rw append-assoc (field-back numberLong numberPlace (r .number) (0x53 ∷ 0x43 ∷ []) (patternBytes (patterns r) ++ r .cut ∷ []) refl (t .number))
 
   all-fit : AllFit (patterns r)
   all-fit =
@@ -99,21 +100,24 @@ nan-written r t j l e = pattern-here r t j l ∙ e ∙ nan-pattern
 
 -- ---- a record's fault
 
+-- what is tested behind the mark: the cut, then the number
+abbrev pub laterFault : ℕ → ℕ → ℕ → ℕ
+laterFault cut number least = refusal 13 (ltb 1 cut) orElse refusal 14 (ltb number least)
+
 -- a record that rises above a number rises above a lower one
 pub fault-lower : (low high : ℕ) (bs : List ℕ) → low ≤ high → bytesFault high bs ≡ 0 → bytesFault low bs ≡ 0
 unfolding bytesFault
 fault-lower low high bs l e =
-    let (mark, later) = or-none (refusal 12 (not (hasMark bs))) (refusal 13 (ltb 1 (cutField bs)) orElse refusal 14 (ltb (numberField bs) high)) e in
+    let (mark, later) = or-none (refusal 12 (not (hasMark bs))) (laterFault (cutField bs) (numberField bs) high) e in
     let (cut, number) = or-none (refusal 13 (ltb 1 (cutField bs))) (refusal 14 (ltb (numberField bs) high)) later in
-    let rises : ltb (numberField bs) low ≡ false
-    = le-ltb (numberField bs) low (omega (arith, ltb-false (numberField bs) high (passed 13 (ltb (numberField bs) high) number))) in
-    sym (or-later 0 (refusal 12 (not (hasMark bs))) (refusal 13 (ltb 1 (cutField bs)) orElse refusal 14 (ltb (numberField bs) low)) (sym mark)
-    (or-later 0 (refusal 13 (ltb 1 (cutField bs))) (refusal 14 (ltb (numberField bs) low)) (sym cut) (test-passed 14 (ltb (numberField bs) low) rises)))
+    let above : high ≤ numberField bs = ltb-false (numberField bs) high (passed 13 (ltb (numberField bs) high) number) in
+    let rises : refusal 14 (ltb (numberField bs) low) ≡ 0 = rw (le-ltb (numberField bs) low (omega arith)) in
+    or-both (refusal 12 (not (hasMark bs))) (laterFault (cutField bs) (numberField bs) low) mark
+    (or-both (refusal 13 (ltb 1 (cutField bs))) (refusal 14 (ltb (numberField bs) low)) cut rises)
 
--- a record as it is written is at fault as the new one is
-pub fault-written : (r : Record) → Typed r → (least : ℕ)
-    → bytesFault least (recordBytes r) ≡ refusal 13 (ltb 1 (r .cut)) orElse refusal 14 (ltb (r .number) least)
+-- of a record as it is written the mark is never at fault
+pub fault-written : (r : Record) → Typed r → (least : ℕ) → bytesFault least (recordBytes r) ≡ laterFault (r .cut) (r .number) least
 unfolding bytesFault
 fault-written r t least =
-    rw (mark-back r, cut-back r, number-back r t)
-    (sym (or-later (refusal 13 (ltb 1 (r .cut)) orElse refusal 14 (ltb (r .number) least)) 0 (refusal 13 (ltb 1 (r .cut)) orElse refusal 14 (ltb (r .number) least)) refl refl))
+    let later : ℕ = laterFault (r .cut) (r .number) least in
+    rw (mark-back r, cut-back r, number-back r t) (sym (or-later later 0 later refl refl))
