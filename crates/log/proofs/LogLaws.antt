@@ -1,4 +1,5 @@
--- Logs by their records: what depends on the first n records alone, what an overwritten log holds, and what its end holds. Assumes nothing.
+-- Logs by their records: what depends on the first n records alone, what the reader gives at each place, what an overwritten log holds, and what its end
+-- holds. Assumes nothing.
 use mathlib.Core.Path.{_≡_, refl, sym, ap, ap₂, _∙_}
 use mathlib.Core.List.{List, [], _∷_, _++_}
 use Prim.Native.Nat.{ℕ, zero, suc, _+_, _-_, _*_, _≤_, _<_, max}
