@@ -4,12 +4,12 @@ use mathlib.Core.Bool.{Bool, true, false, cond}
 use mathlib.Core.List.{List, [], _∷_, _++_}
 use Prim.Native.Nat.{ℕ, _+_, _*_, _≤_, _<_, max}
 use native.Mathlib.Omega.{arith}
-use borrow.Author.Tests.{eqb-true, eqb-false}
+use borrow.Author.Tests.{eqb-true, eqb-false, ltb-false}
 use lib.Dec.{eqb, ltb}
 use lib.ListN.{length, take, drop, length-take}
 use lib.Seq.{take-all, take-take, length-take-le}
 use Rattle.answer.specs.Refusal.{refusal, _orElse_}
-use Rattle.answer.proofs.Laws.{or-none, lent-written, lent-kept}
+use Rattle.answer.proofs.Laws.{or-none, passed, lent-written, lent-kept}
 use Rattle.octets.specs.Octets.{overwritten}
 use Rattle.octets.proofs.Over.{over-take, over-past, over-again, over-end, over-rest}
 use Rattle.log.specs.declared.Record.{Record}
@@ -98,10 +98,10 @@ after-the-cut log r next k l = (fault, bytes)
 -- It holds by going from append to append: each leaves a log of which the power cut's promise speaks.
 pub cards-life : CardsLife
 unfolding cardAfter AllTaken readAll
-cards-life log [] taken = (taken, refl)
-cards-life log (t ∷ ts) taken =
-    let once = power-cut log (t .what) (t .bytes) (taken .0) (taken .1 .0) (taken .1 .1 .0) in
-    let later = cards-life (cutShort (t .bytes) log (t .what)) ts (taken .1 .1 .1) in
+cards-life log [] accepted taken = (accepted, refl)
+cards-life log (t ∷ ts) accepted taken =
+    let once = power-cut log (t .what) (t .bytes) (taken .0) (record { old = accepted; new = taken .1 .0 }) (taken .1 .1 .0) in
+    let later = cards-life (cutShort (t .bytes) log (t .what)) ts (once .0) (taken .1 .1 .1) in
     (later .0, later .1 ∙ ap (λ (g : Reading). readAll g ts) (once .1))
 
 -- ---- in lent memory
@@ -137,9 +137,11 @@ append-leaves lent used r e =
     let room : ℕ = refusal 15 (ltb (length lent) (wholeLong log + recordLong)) in
     let (within, later) = or-none (refusal 15 (ltb (length lent) used)) (logFault log orElse newFault log r orElse room) e in
     let (old, last) = or-none (logFault log) (newFault log r orElse room) later in
+    let (new, room-none) = or-none (newFault log r) room last in
     let left : lentAfterAppend lent used r ≡ written lent used r = sym (lent-written (appendFault lent used r) (written lent used r) lent (sym e)) in
     record {
-      takes = record { old = old; new = or-none (newFault log r) room last .0 };
+      takes = record { old = old; new = new };
+      fits = ltb-false (length lent) (wholeLong log + recordLong) (passed 14 (ltb (length lent) (wholeLong log + recordLong)) room-none);
       log = ap (take (wholeLong log + recordLong)) left ∙ log-there lent used r;
       behind = ap (drop (wholeLong log + recordLong)) left ∙ behind-there lent used r;
     }
