@@ -2,7 +2,7 @@
 use mathlib.Core.Path.{_≡_, refl, sym, ap, _∙_}
 use mathlib.Core.Bool.{Bool, true, false, cond}
 use mathlib.Core.List.{List, [], _∷_, _++_}
-use Prim.Native.Nat.{ℕ, _+_, _*_, _≤_, _<_, max}
+use Prim.Native.Nat.{ℕ, suc, _+_, _*_, _≤_, _<_, max}
 use native.Mathlib.Omega.{arith}
 use borrow.Author.Tests.{eqb-true, eqb-false, ltb-false}
 use lib.Dec.{eqb, ltb}
@@ -14,13 +14,13 @@ use Rattle.octets.specs.Octets.{overwritten}
 use Rattle.octets.proofs.Over.{over-take, over-past, over-again, over-end, over-rest}
 use Rattle.log.specs.declared.Record.{Record}
 use Rattle.log.specs.Records.{recordLong, patterns, recordBytes, numberField, patternFields, cutField}
-use Rattle.log.specs.Log.{wholeRecords, tornRest, wholeLong, leastAfter, logFault, numbersOf, patternsOf, cutsOf}
+use Rattle.log.specs.Log.{wholeRecords, tornRest, wholeLong, recordIn, leastAfter, recordFault, logFault, numbersOf, patternsOf, cutsOf}
 use Rattle.log.specs.Log.{newFault, appendFault, appended, lentAfterAppend}
 use Rattle.log.specs.Promises.{Reading, readingOf, andRecord, andRest, cutShort, cardAfter, AllTaken, readAll}
-use Rattle.log.specs.Promises.{AppendLeaves, RoundTrip, StaysALog, PowerCut, AfterTheCut, NothingOnRefusal, EndWillDo, CardsLife}
-use Rattle.log.proofs.RecordLaws.{record-long, number-back, patterns-back, cut-back, laterFault, fault-written}
+use Rattle.log.specs.Promises.{AppendLeaves, RoundTrip, StaysALog, PowerCut, AfterTheCut, NothingOnRefusal, EndWillDo, CardsLife, ScanAccepts}
+use Rattle.log.proofs.RecordLaws.{record-long, number-back, patterns-back, cut-back, laterFault, fault-written, Sound, sound}
 use Rattle.log.proofs.LogLaws.{records-stay, rest-reaches, fault-stays, least-stays, fields-stay, no-rest, fault-more, fields-more}
-use Rattle.log.proofs.LogLaws.{end-records, end-rises, end-accepted}
+use Rattle.log.proofs.LogLaws.{earliest-each, number-at, cut-at, end-records, end-rises, end-accepted}
 
 -- It holds since the new record stands behind the old ones, and each of its fields is read back from its bytes.
 pub round-trip : RoundTrip
@@ -160,3 +160,15 @@ end-will-do log j e l = record {
 
     there : wholeLong log ≡ front + wholeLong (drop front log)
     there = omega (arith, end-records log j (omega arith))
+
+-- It holds since a log with no fault has no record at fault.
+pub scan-accepts : ScanAccepts
+unfolding logFault leastAfter
+scan-accepts log e = record {
+  marks = λ k l. here k l .mark;
+  rise = λ k l. rw (number-at log k (omega arith), number-at log (suc k) l) (here (suc k) l .rises);
+  cut-or-none = λ k l. rw (cut-at log k l) (here k l .cut);
+}
+  where
+    here : (k : ℕ) → k < wholeRecords log → Sound (leastAfter log k) (recordIn log k)
+    here k l = sound (leastAfter log k) (recordIn log k) (earliest-each (wholeRecords log) (recordFault log) e k l)

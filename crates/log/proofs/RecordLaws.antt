@@ -4,7 +4,7 @@ use mathlib.Core.Bool.{true, not}
 use mathlib.Core.List.{List, [], _∷_, _++_, append-assoc}
 use Prim.Native.Nat.{ℕ, zero, suc, _+_, _*_, _^_, _≤_, _<_}
 use native.Mathlib.Omega.{arith}
-use borrow.Author.Tests.{ltb-false, le-ltb}
+use borrow.Author.Tests.{ltb-false, le-ltb, not-false}
 use lib.Dec.{ltb}
 use lib.Ieee.{nan, binary64, toBits}
 use lib.ListN.{length, getD, length-append}
@@ -104,16 +104,29 @@ nan-written r t j l e = pattern-here r t j l ∙ e ∙ nan-pattern
 abbrev pub laterFault : ℕ → ℕ → ℕ → ℕ
 laterFault cut number least = refusal 13 (ltb 1 cut) orElse refusal 14 (ltb number least)
 
+-- a record that is not at fault
+pub record Sound (least : ℕ) (bs : List ℕ) : Type 0 where
+  pub mark : hasMark bs ≡ true
+  pub cut : cutField bs ≤ 1
+  pub rises : least ≤ numberField bs
+
+pub sound : (least : ℕ) (bs : List ℕ) → bytesFault least bs ≡ 0 → Sound least bs
+unfolding bytesFault
+sound least bs e =
+    let (mark, later) = or-none (refusal 12 (not (hasMark bs))) (laterFault (cutField bs) (numberField bs) least) e in
+    let (cut, number) = or-none (refusal 13 (ltb 1 (cutField bs))) (refusal 14 (ltb (numberField bs) least)) later in
+    record {
+      mark = not-false (hasMark bs) (passed 11 (not (hasMark bs)) mark);
+      cut = ltb-false 1 (cutField bs) (passed 12 (ltb 1 (cutField bs)) cut);
+      rises = ltb-false (numberField bs) least (passed 13 (ltb (numberField bs) least) number);
+    }
+
 -- a record that rises above a number rises above a lower one
 pub fault-lower : (low high : ℕ) (bs : List ℕ) → low ≤ high → bytesFault high bs ≡ 0 → bytesFault low bs ≡ 0
 unfolding bytesFault
 fault-lower low high bs l e =
-    let (mark, later) = or-none (refusal 12 (not (hasMark bs))) (laterFault (cutField bs) (numberField bs) high) e in
-    let (cut, number) = or-none (refusal 13 (ltb 1 (cutField bs))) (refusal 14 (ltb (numberField bs) high)) later in
-    let above : high ≤ numberField bs = ltb-false (numberField bs) high (passed 13 (ltb (numberField bs) high) number) in
-    let rises : refusal 14 (ltb (numberField bs) low) ≡ 0 = rw (le-ltb (numberField bs) low (omega arith)) in
-    or-both (refusal 12 (not (hasMark bs))) (laterFault (cutField bs) (numberField bs) low) mark
-    (or-both (refusal 13 (ltb 1 (cutField bs))) (refusal 14 (ltb (numberField bs) low)) cut rises)
+    let s : Sound high bs = sound high bs e in
+    rw (s .mark, le-ltb 1 (cutField bs) (s .cut), le-ltb (numberField bs) low (omega arith)) (or-both 0 (0 orElse 0) refl (or-both 0 0 refl refl))
 
 -- of a record as it is written the mark is never at fault
 pub fault-written : (r : Record) → Typed r → (least : ℕ) → bytesFault least (recordBytes r) ≡ laterFault (r .cut) (r .number) least

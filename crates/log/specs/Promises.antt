@@ -1,16 +1,17 @@
 -- What a recorder's author can rely on. A card holds a log: a list of bytes. `appended` says what an append leaves on it, and `lentAfterAppend`
 -- what the code leaves in lent memory; 1 ties the two. proofs/Promised.antt proves each statement.
 use mathlib.Core.Path.{_≡_}
-use mathlib.Core.Bool.{cond}
+use mathlib.Core.Bool.{true, cond}
 use mathlib.Core.List.{List, [], _∷_, _++_}
-use Prim.Native.Nat.{ℕ, _+_, _*_, _≤_, _<_, _^_, max}
+use Prim.Native.Nat.{ℕ, suc, _+_, _*_, _≤_, _<_, _^_, max}
 use lib.Dec.{T, eqb}
 use lib.Ieee.{binary64, fits}
-use lib.ListN.{length, take, drop}
+use lib.ListN.{length, take, drop, getD}
 use Rattle.octets.specs.Octets.{overwritten}
 use Rattle.log.specs.declared.Record.{Record}
-use Rattle.log.specs.Records.{recordLong, patterns, recordBytes}
-use Rattle.log.specs.Log.{wholeRecords, tornRest, wholeLong, logFault, numbersOf, patternsOf, cutsOf, readFault, readInto, newFault, appendFault, appended, lentAfterAppend}
+use Rattle.log.specs.Records.{recordLong, patterns, recordBytes, hasMark}
+use Rattle.log.specs.Log.{wholeRecords, tornRest, wholeLong, recordIn, logFault, numbersOf, patternsOf, cutsOf}
+use Rattle.log.specs.Log.{readInto, newFault, appendFault, appended, lentAfterAppend}
 
 -- ---- the words
 
@@ -127,3 +128,12 @@ abbrev pub CardsLife : Type 0
 CardsLife =
     (log : List ℕ) (ts : List Try) → logFault log ≡ 0 → AllTaken log ts
     → (logFault (cardAfter log ts) ≡ 0) × (readingOf (cardAfter log ts) ≡ readAll (readingOf log) ts)
+
+-- 9. What scan accepts: every record has the mark, numbers rise strictly, and each cut is 0 or 1.
+pub record InOrder (log : List ℕ) : Type 0 where
+  pub marks : (k : ℕ) → k < wholeRecords log → hasMark (recordIn log k) ≡ true
+  pub rise : (k : ℕ) → suc k < wholeRecords log → getD (numbersOf log) k 0 < getD (numbersOf log) (suc k) 0
+  pub cut-or-none : (k : ℕ) → k < wholeRecords log → getD (cutsOf log) k 0 ≤ 1
+
+abbrev pub ScanAccepts : Type 0
+ScanAccepts = (log : List ℕ) → logFault log ≡ 0 → InOrder log
