@@ -37,6 +37,10 @@ or-none f g e = by-case (eqb f 0) f g (eqb-true f 0) (eqb-false f 0) e
     by-case true f g is isn't e = (is refl, e)
     by-case false f g is isn't e = absurd (isn't refl e)
 
+-- and where neither refuses, nothing is refused
+pub or-both : (f g : ℕ) → f ≡ 0 → g ≡ 0 → f orElse g ≡ 0
+or-both f g e d = sym (or-later 0 f g (sym e) (sym d))
+
 -- a refusal that is not given: its test fails
 pub passed : (k : ℕ) (test : Bool) → refusal (suc k) test ≡ 0 → test ≡ false
 passed k true e = absurd (suc-ne-zero k e)

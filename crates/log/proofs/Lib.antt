@@ -1,2 +1,5 @@
 pub mod Places
 pub mod Earliest
+pub mod RecordLaws
+pub mod LogLaws
+pub mod Promised

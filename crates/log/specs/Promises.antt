@@ -1,16 +1,17 @@
 -- What a recorder's author can rely on. A card holds a log: a list of bytes. `appended` says what an append leaves on it, and `lentAfterAppend`
 -- what the code leaves in lent memory; 1 ties the two. proofs/Promised.antt proves each statement.
 use mathlib.Core.Path.{_≡_}
-use mathlib.Core.Bool.{cond}
+use mathlib.Core.Bool.{true, cond}
 use mathlib.Core.List.{List, [], _∷_, _++_}
-use Prim.Native.Nat.{ℕ, _+_, _*_, _≤_, _<_, _^_, max}
+use Prim.Native.Nat.{ℕ, suc, _+_, _*_, _≤_, _<_, _^_, max}
 use lib.Dec.{T, eqb}
 use lib.Ieee.{binary64, fits}
-use lib.ListN.{take, drop}
+use lib.ListN.{length, take, drop, getD}
 use Rattle.octets.specs.Octets.{overwritten}
 use Rattle.log.specs.declared.Record.{Record}
-use Rattle.log.specs.Records.{recordLong, patterns, recordBytes}
-use Rattle.log.specs.Log.{wholeRecords, tornRest, wholeLong, logFault, numbersOf, patternsOf, cutsOf, readFault, readInto, newFault, appendFault, appended, lentAfterAppend}
+use Rattle.log.specs.Records.{recordLong, patterns, recordBytes, hasMark}
+use Rattle.log.specs.Log.{wholeRecords, tornRest, wholeLong, recordIn, logFault, numbersOf, patternsOf, cutsOf}
+use Rattle.log.specs.Log.{readInto, newFault, appendFault, appended, lentAfterAppend}
 
 -- ---- the words
 
@@ -53,9 +54,10 @@ cutShort k log r = overwritten (wholeLong log) (take k (recordBytes r)) log
 -- ---- the promises
 
 -- 1. What the code does is what is said of cards. An append that is not refused leaves in the lent memory the log that the card is to hold, up
--- to the new used length; bytes behind it stay.
+-- to the new used length, which lies within it; bytes behind it stay.
 pub record Leaves (lent : List ℕ) (used : ℕ) (r : Record) : Type 0 where
   pub takes : Takes (take used lent) r
+  pub fits : wholeLong (take used lent) + recordLong ≤ length lent
   pub log : take (wholeLong (take used lent) + recordLong) (lentAfterAppend lent used r) ≡ appended (take used lent) r
   pub behind : drop (wholeLong (take used lent) + recordLong) (lentAfterAppend lent used r) ≡ drop (wholeLong (take used lent) + recordLong) lent
 
@@ -109,10 +111,10 @@ unfoldable pub cardAfter : List ℕ → List Try → List ℕ
 cardAfter log [] = log
 cardAfter log (t ∷ ts) = cardAfter (cutShort (t .bytes) log (t .what)) ts
 
--- each is one that the card takes at its time
+-- each is one that an append does not refuse for what it is, at its time
 unfoldable pub AllTaken : List ℕ → List Try → Type 0
-AllTaken log [] = logFault log ≡ 0
-AllTaken log (t ∷ ts) = Typed (t .what) × (Takes log (t .what) × ((t .bytes ≤ recordLong) × AllTaken (cutShort (t .bytes) log (t .what)) ts))
+AllTaken log [] = Unit {0}
+AllTaken log (t ∷ ts) = Typed (t .what) × ((newFault log (t .what) ≡ 0) × ((t .bytes ≤ recordLong) × AllTaken (cutShort (t .bytes) log (t .what)) ts))
 
 -- what was written whole is read, in order; what was cut short leaves a rest at most
 abbrev pub readAfter : Reading → Try → Reading
@@ -123,4 +125,15 @@ readAll g [] = g
 readAll g (t ∷ ts) = readAll (readAfter g t) ts
 
 abbrev pub CardsLife : Type 0
-CardsLife = (log : List ℕ) (ts : List Try) → AllTaken log ts → (logFault (cardAfter log ts) ≡ 0) × (readingOf (cardAfter log ts) ≡ readAll (readingOf log) ts)
+CardsLife =
+    (log : List ℕ) (ts : List Try) → logFault log ≡ 0 → AllTaken log ts
+    → (logFault (cardAfter log ts) ≡ 0) × (readingOf (cardAfter log ts) ≡ readAll (readingOf log) ts)
+
+-- 9. What scan accepts: every record has the mark, numbers rise strictly, and each cut is 0 or 1.
+pub record InOrder (log : List ℕ) : Type 0 where
+  pub marks : (k : ℕ) → k < wholeRecords log → hasMark (recordIn log k) ≡ true
+  pub rise : (k : ℕ) → suc k < wholeRecords log → getD (numbersOf log) k 0 < getD (numbersOf log) (suc k) 0
+  pub cut-or-none : (k : ℕ) → k < wholeRecords log → getD (cutsOf log) k 0 ≤ 1
+
+abbrev pub ScanAccepts : Type 0
+ScanAccepts = (log : List ℕ) → logFault log ≡ 0 → InOrder log

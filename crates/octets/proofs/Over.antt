@@ -1,11 +1,11 @@
 -- Bytes written over others: what stays, what stands there, and that bytes written behind others are written with them. Assumes nothing.
-use mathlib.Core.Path.{_≡_, refl, sym, ap, _∙_}
+use mathlib.Core.Path.{_≡_, sym, ap, _∙_}
 use mathlib.Core.List.{List, [], _∷_, _++_, append-assoc, append-nil}
 use Prim.Native.Nat.{ℕ, suc, _+_, _-_, _≤_, _<_}
 use native.Mathlib.Nat.{add-zero}
 use native.Mathlib.Omega.{arith}
-use lib.ListN.{length, take, drop, getD, set, length-append, length-take, length-drop, take-append-drop}
-use lib.Seq.{drop-cons, set-at, append-snoc, take-at, drop-at, take-append-le, drop-append-le, length-take-le, drop-drop, take-take, drop-append-add, take-append-seam}
+use lib.ListN.{length, take, drop, getD, set, length-append, length-take, length-drop, take-append-drop, drop-of-length-le}
+use lib.Seq.{take-at, drop-at, take-append-le, length-take-le, drop-cons, drop-drop, take-take, take-add, take-append-seam, set-at, append-snoc}
 use Rattle.octets.specs.Octets.{overwritten}
 
 module _ (at : ℕ) (bs s : List ℕ) (h : at ≤ length s) where
@@ -82,6 +82,36 @@ over-same at n s h =
     let long : length (take n (drop at s)) ≡ n = omega (arith, length-take n (drop at s), length-drop at s) in
     rw (long, append-assoc (take at s) (take n (drop at s)) (drop (at + n) s), ← drop-drop n at s, take-append-drop n (drop at s))
     (take-append-drop at s)
+
+-- farther behind the bytes too, all stays
+pub over-past : (at : ℕ) (bs s : List ℕ) (k : ℕ) → at ≤ length s → at + length bs ≤ k → drop k (overwritten at bs s) ≡ drop k s
+over-past at bs s k h l =
+    let end : ℕ = at + length bs in
+    let far : end + (k - end) ≡ k = omega arith in
+    ap (λ (n : ℕ). drop n (overwritten at bs s)) (sym far)
+    ∙ sym (drop-drop (k - end) end (overwritten at bs s))
+    ∙ ap (drop (k - end)) (over-behind at bs s h)
+    ∙ drop-drop (k - end) end s
+    ∙ ap (λ (n : ℕ). drop n s) far
+
+-- bytes written over no more bytes than they are: as if those had never been written
+pub over-again : (at : ℕ) (bs cs s : List ℕ) → at ≤ length s → length cs ≤ length bs → overwritten at bs (overwritten at cs s) ≡ overwritten at bs s
+unfolding overwritten
+over-again at bs cs s h l =
+    ap (λ (front : List ℕ). front ++ bs ++ drop (at + length bs) (overwritten at cs s)) (over-front at cs s h at (omega arith))
+    ∙ ap (λ (behind : List ℕ). take at s ++ bs ++ behind) (over-past at cs s (at + length bs) h (omega arith))
+
+-- where nothing stands behind the bytes, they are the end
+pub over-end : (at : ℕ) (bs s : List ℕ) → length s ≤ at + length bs → overwritten at bs s ≡ take at s ++ bs
+unfolding overwritten
+over-end at bs s h = rw (drop-of-length-le s h) (append-nil (take at s ++ bs))
+
+-- bytes written behind a front are written into the rest
+pub over-rest : (m at : ℕ) (bs s : List ℕ) → overwritten (m + at) bs s ≡ take m s ++ overwritten at bs (drop m s)
+unfolding overwritten
+over-rest m at bs s =
+    let far : m + at + length bs ≡ m + (at + length bs) = omega arith in
+    rw (take-add m at s, drop-drop (at + length bs) m s, far) (simp append-assoc)
 
 -- no byte changes nothing
 pub over-none : (at : ℕ) (s : List ℕ) → overwritten at [] s ≡ s
