@@ -23,6 +23,10 @@ unfolding joined
 joined-same zero g h e = refl
 joined-same (suc n) g h e = ap₂ (λ (a b : List ℕ). a ++ b) (joined-same n g h (λ k l. e k (omega arith))) (e n (omega arith))
 
+pub joined-none : (g : ℕ → List ℕ) → joined 0 g ≡ []
+unfolding joined
+joined-none g = refl
+
 pub joined-next : (n : ℕ) (g : ℕ → List ℕ) → joined (suc n) g ≡ joined n g ++ g n
 unfolding joined
 joined-next n g = refl

@@ -13,7 +13,7 @@ use Rattle.answer.specs.Refusal.{refusal, _orElse_}
 use Rattle.answer.proofs.Laws.{test-given, test-first, test-passed, test-later}
 use Rattle.octets.specs.Octets.{numberOf}
 use Rattle.log.specs.Records.{recordLong, patternLong, patternsPlace, hasMark, field, numberField, patternFields, cutField, bytesFault}
-use Rattle.log.specs.Log.{recordIn, leastAfter}
+use Rattle.log.specs.Log.{recordIn, leastAfter, joined}
 use Rattle.log.specs.Needs.{patternsAt}
 
 -- ---- places
@@ -45,9 +45,9 @@ module _ (log : List ℕ) (k : ℕ) where
       field-in patternLong (patternsPlace + j) (omega arith) ∙ ap (λ (i : ℕ). field patternLong i log) place
 
   pub patterns-in : patternFields (recordIn log k) ≡ patternsAt (k * recordLong + patternsPlace) log
-  unfolding patternFields patternsAt
+  unfolding patternFields joined
   patterns-in =
-      rw (field-in patternLong patternsPlace (omega arith), pattern-in 8 (omega arith), pattern-in 16 (omega arith), pattern-in 24 (omega arith), pattern-in 32 (omega arith))
+      rw (pattern-in 0 (omega arith), pattern-in 8 (omega arith), pattern-in 16 (omega arith), pattern-in 24 (omega arith), pattern-in 32 (omega arith))
 
 -- ---- the least number that rises
 

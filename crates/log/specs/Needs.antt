@@ -3,15 +3,13 @@ use mathlib.Core.List.{List, [], _∷_}
 use Prim.Native.Nat.{ℕ, _+_, _*_, _≤_}
 use lib.ListN.{length}
 use Rattle.log.specs.Records.{recordLong, patternLong, patternCount, field}
+use Rattle.log.specs.Log.{joined}
 
-unfoldable pub patternsAt : ℕ → List ℕ → List ℕ
-patternsAt at log =
-    field patternLong at log
-    ∷ field patternLong (at + patternLong) log
-    ∷ field patternLong (at + 2 * patternLong) log
-    ∷ field patternLong (at + 3 * patternLong) log
-    ∷ field patternLong (at + 4 * patternLong) log
-    ∷ []
+abbrev pub patternAt : ℕ → List ℕ → ℕ → List ℕ
+patternAt at log j = field patternLong (at + j * patternLong) log ∷ []
+
+abbrev pub patternsAt : ℕ → List ℕ → List ℕ
+patternsAt at log = joined patternCount (patternAt at log)
 
 pub record Roomy (n : ℕ) (log numbers bits cuts : List ℕ) : Type 0 where
   pub records : n * recordLong ≤ length log

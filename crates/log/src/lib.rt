@@ -114,11 +114,9 @@ fn take_patterns(log: &[u8], at: usize, bits: &mut [u64], to: usize)
     requires { ⌜ to + patternCount ≤ length (now bits) ⌝ }
     ensures { λ _. ⌜ now (bits .exit) ≡ overwritten to (patternsAt at (now (log .entry))) (now (bits .entry)) ⌝ }
 {
-    bits[to] = octets::u64_at(log, at);
-    bits[to + 1] = octets::u64_at(log, at + PATTERN);
-    bits[to + 2] = octets::u64_at(log, at + 2 * PATTERN);
-    bits[to + 3] = octets::u64_at(log, at + 3 * PATTERN);
-    bits[to + 4] = octets::u64_at(log, at + 4 * PATTERN);
+    for j in 0..COUNT {
+        bits[to + j] = octets::u64_at(log, at + j * PATTERN);
+    }
 }
 
 // Each of the first n records to the lists.

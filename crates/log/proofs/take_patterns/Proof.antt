@@ -1,151 +1,99 @@
+-- `log::take_patterns` meets its contract: after j turns the first j patterns stand in the list. Assumes nothing.
+use mathlib.Core.Path.{_≡_, refl, sym, ap, _∙_}
+use mathlib.Core.List.{List, [], _∷_, _++_}
+use Prim.Native.Nat.{ℕ, suc, _+_, _*_, _-_, _≤_, _<_}
+use native.Mathlib.Numerals.{add-one}
+use native.Mathlib.Omega.{arith}
 use borrow.Author.Needs.{needs}
+use lib.ListN.{length, length-set}
+use Rattle.octets.specs.Octets.{overwritten}
+use Rattle.octets.proofs.Laws.{number-here}
+use Rattle.octets.proofs.Over.{over-none, over-set}
+use Rattle.log.specs.Records.{patternLong, patternCount, field}
+use Rattle.log.specs.Log.{joined}
+use Rattle.log.specs.Needs.{patternAt}
+use Rattle.log.proofs.LogLaws.{joined-none, joined-next, joined-long}
 use Rattle.log.proofs.take_patterns.Statement.{statement}
 use Rattle.log.proofs.take_patterns.Tie as tie
-use Rattle.log.proofs.take_patterns.Reads as reads
-use Rattle.log.proofs.take_patterns.Lts as lts
-use Rattle.octets.proofs.u64_at.Reads as u64-at-reads
 
--- src/lib.rt:117:16
-u64-at-requires : tie.Need-u64-at-requires
+abbrev Inv-loop : tie.InvT-loop
+Inv-loop log at bits₀ to j₀ bits j = (j ≤ patternCount) × ((length bits ≡ length bits₀) × (bits ≡ overwritten to (joined j (patternAt at log)) bits₀))
+
+abbrev μ-loop : tie.MeasureT-loop
+μ-loop log at bits₀ to j₀ bits j = patternCount - j
+
+loop-holds : tie.Need-loop-holds Inv-loop μ-loop
+loop-holds c =
+    let a = c .before .before .args in
+    (omega arith, (refl, sym (ap (λ (l : List ℕ). overwritten (a .to) l (a .bits .now)) (joined-none (patternAt (a .at) (a .log .now))) ∙ over-none (a .to) (a .bits .now))))
+
+mul-u64-at : tie.Need-mul-u64-at Inv-loop μ-loop
+mul-u64-at c = omega arith
+
+add-u64-at : tie.Need-add-u64-at Inv-loop μ-loop
+add-u64-at c = omega arith
+
+u64-at-requires : tie.Need-u64-at-requires Inv-loop μ-loop
 u64-at-requires c κs = search needs
 
--- src/lib.rt:117:5
-mul-bits : tie.Need-mul-bits
+add-bits : tie.Need-add-bits Inv-loop μ-loop
+add-bits c = omega arith
+
+mul-bits : tie.Need-mul-bits Inv-loop μ-loop
 mul-bits c = search needs
 
--- src/lib.rt:117:5
-slice-write-bits : tie.Need-slice-write-bits
-slice-write-bits c = search needs
+slice-write-bits : tie.Need-slice-write-bits Inv-loop μ-loop
+slice-write-bits c = omega arith
 
--- src/lib.rt:118:40
-add-u64-at : tie.Need-add-u64-at
-add-u64-at c = search needs
+add-j : tie.Need-add-j Inv-loop μ-loop
+add-j c = omega arith
 
--- src/lib.rt:118:20
-u64-at-requires-2 : tie.Need-u64-at-requires-2
-u64-at-requires-2 c κs = search needs
+loop-less : tie.Need-loop-less Inv-loop μ-loop
+loop-less c = omega arith
 
--- src/lib.rt:118:10
-add-bits : tie.Need-add-bits
-add-bits c = search needs
+loop-again : tie.Need-loop-again Inv-loop μ-loop
+loop-again c =
+    let b = c .before .before in
+    let a = b .before .before .before .args in
+    let log = a .log .now in
+    let to = a .to in
+    let j = b .loop .j in
+    let so-far = joined j (patternAt (a .at) log) in
+    let long : length so-far ≡ j = omega (arith, joined-long 1 (patternAt (a .at) log) (λ k. refl) j) in
+    let place : to + j ≡ to + length so-far = omega arith in
+    let value : c .u64-at .result ≡ field patternLong (a .at + j * patternLong) log = c .u64-at .ensures ∙ number-here patternLong (a .at + j * patternLong) log (omega arith) in
+    (
+      omega arith,
+      (
+        length-set (b .loop .bits) (to + j) (c .u64-at .result) ∙ b .loop .inv .1 .0,
+        rw (add-one j, joined-next j (patternAt (a .at) log), b .loop .inv .1 .1, value, place) (over-set to so-far (a .bits .now) (field patternLong (a .at + j * patternLong) log) (omega arith)),
+      ),
+    )
 
--- src/lib.rt:118:5
-mul-bits-2 : tie.Need-mul-bits-2
-mul-bits-2 c = search needs
+same-length : tie.Need-same-length Inv-loop μ-loop
+same-length c = omega arith
 
--- src/lib.rt:118:5
-slice-write-bits-2 : tie.Need-slice-write-bits-2
-slice-write-bits-2 c = ?
-
--- src/lib.rt:119:45
-mul-u64-at : tie.Need-mul-u64-at
-mul-u64-at c = search needs
-
--- src/lib.rt:119:40
-add-u64-at-2 : tie.Need-add-u64-at-2
-add-u64-at-2 c = search needs
-
--- src/lib.rt:119:20
-u64-at-requires-3 : tie.Need-u64-at-requires-3
-u64-at-requires-3 c κs = search needs
-
--- src/lib.rt:119:10
-add-bits-2 : tie.Need-add-bits-2
-add-bits-2 c = search needs
-
--- src/lib.rt:119:5
-mul-bits-3 : tie.Need-mul-bits-3
-mul-bits-3 c = search needs
-
--- src/lib.rt:119:5
-slice-write-bits-3 : tie.Need-slice-write-bits-3
-slice-write-bits-3 c = ?
-
--- src/lib.rt:120:45
-mul-u64-at-2 : tie.Need-mul-u64-at-2
-mul-u64-at-2 c = search needs
-
--- src/lib.rt:120:40
-add-u64-at-3 : tie.Need-add-u64-at-3
-add-u64-at-3 c = search needs
-
--- src/lib.rt:120:20
-u64-at-requires-4 : tie.Need-u64-at-requires-4
-u64-at-requires-4 c κs = search needs
-
--- src/lib.rt:120:10
-add-bits-3 : tie.Need-add-bits-3
-add-bits-3 c = search needs
-
--- src/lib.rt:120:5
-mul-bits-4 : tie.Need-mul-bits-4
-mul-bits-4 c = search needs
-
--- src/lib.rt:120:5
-slice-write-bits-4 : tie.Need-slice-write-bits-4
-slice-write-bits-4 c = ?
-
--- src/lib.rt:121:45
-mul-u64-at-3 : tie.Need-mul-u64-at-3
-mul-u64-at-3 c = search needs
-
--- src/lib.rt:121:40
-add-u64-at-4 : tie.Need-add-u64-at-4
-add-u64-at-4 c = search needs
-
--- src/lib.rt:121:20
-u64-at-requires-5 : tie.Need-u64-at-requires-5
-u64-at-requires-5 c κs = search needs
-
--- src/lib.rt:121:10
-add-bits-4 : tie.Need-add-bits-4
-add-bits-4 c = search needs
-
--- src/lib.rt:121:5
-mul-bits-5 : tie.Need-mul-bits-5
-mul-bits-5 c = search needs
-
--- src/lib.rt:121:5
-slice-write-bits-5 : tie.Need-slice-write-bits-5
-slice-write-bits-5 c = ?
-
--- src/lib.rt:112:1
-same-length : tie.Need-same-length
-same-length c = search needs
-
--- src/lib.rt:112:1
-returns : tie.Need-returns
-returns c = ?
+returns : tie.Need-returns Inv-loop μ-loop
+returns c =
+    let b = c .before in
+    let all : b .loop .j ≡ patternCount = omega arith in
+    rw all at (b .loop .inv .1 .1)
 
 pub take-patterns-spec : {M : Type 1} → statement M
 take-patterns-spec =
     tie.close
     (tie.spec
+    Inv-loop
+    μ-loop
+    loop-holds
+    mul-u64-at
+    add-u64-at
     u64-at-requires
+    add-bits
     mul-bits
     slice-write-bits
-    add-u64-at
-    u64-at-requires-2
-    add-bits
-    mul-bits-2
-    slice-write-bits-2
-    mul-u64-at
-    add-u64-at-2
-    u64-at-requires-3
-    add-bits-2
-    mul-bits-3
-    slice-write-bits-3
-    mul-u64-at-2
-    add-u64-at-3
-    u64-at-requires-4
-    add-bits-3
-    mul-bits-4
-    slice-write-bits-4
-    mul-u64-at-3
-    add-u64-at-4
-    u64-at-requires-5
-    add-bits-4
-    mul-bits-5
-    slice-write-bits-5
+    add-j
+    loop-less
+    loop-again
     same-length
     returns)
