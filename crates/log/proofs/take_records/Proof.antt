@@ -1,91 +1,114 @@
+-- `log::take_records` meets its contract: after k turns the lists hold the first k records. Assumes nothing.
+use mathlib.Core.Path.{_≡_, refl, sym, ap, _∙_}
+use mathlib.Core.List.{List, [], _∷_, _++_}
+use Prim.Native.Nat.{ℕ, suc, _+_, _*_, _-_, _≤_, _<_}
+use native.Mathlib.Numerals.{add-one}
+use native.Mathlib.Omega.{arith}
+use borrow.Author.Needs.{needs}
+use lib.ListN.{length, getD}
+use Rattle.octets.proofs.Laws.{number-here}
+use Rattle.log.specs.Records.{recordLong, numberLong, patternCount, numberPlace, cutPlace, field, patternFields, cutField}
+use Rattle.log.specs.Log.{recordIn, joined, numberOne, patternsOne, cutOne}
+use Rattle.log.proofs.Places.{byte-in, field-in, patterns-in}
+use Rattle.log.proofs.Filled.{Filled, filled-none, filled-one, filled-more}
 use Rattle.log.proofs.take_records.Statement.{statement}
 use Rattle.log.proofs.take_records.Tie as tie
-use Rattle.log.proofs.take_records.Reads as reads
-use Rattle.log.proofs.take_records.Lts as lts
-use Rattle.log.proofs.take_patterns.Reads as take-patterns-reads
-use Rattle.octets.proofs.u32_at.Reads as u32-at-reads
+
+patterns-wide : (log : List ℕ) (k : ℕ) → length (patternsOne log k) ≡ patternCount
+unfolding patternFields
+patterns-wide log k = refl
 
 abbrev Inv-loop : tie.InvT-loop
-Inv-loop log n numbers₀ bits₀ cuts₀ k₀ numbers bits cuts k = ?
+Inv-loop log n numbers₀ bits₀ cuts₀ k₀ numbers bits cuts k =
+    (k ≤ n)
+    × (Filled numbers₀ numbers (joined k (numberOne log)) × (Filled bits₀ bits (joined k (patternsOne log)) × Filled cuts₀ cuts (joined k (cutOne log))))
 
 abbrev μ-loop : tie.MeasureT-loop
-μ-loop log n numbers₀ bits₀ cuts₀ k₀ numbers bits cuts k = ?
+μ-loop log n numbers₀ bits₀ cuts₀ k₀ numbers bits cuts k = n - k
 
--- src/lib.rt:131:5
 loop-holds : tie.Need-loop-holds Inv-loop μ-loop
-loop-holds c = ?
+loop-holds c =
+    let a = c .before .before .before .before .args in
+    let log = a .log .now in
+    (omega arith, (filled-none (numberOne log) (a .numbers .now), (filled-none (patternsOne log) (a .bits .now), filled-none (cutOne log) (a .cuts .now))))
 
--- src/lib.rt:132:18
 mul-at : tie.Need-mul-at Inv-loop μ-loop
-mul-at c = ?
+mul-at c = omega arith
 
--- src/lib.rt:133:42
 add-u32-at : tie.Need-add-u32-at Inv-loop μ-loop
-add-u32-at c = ?
+add-u32-at c = omega arith
 
--- src/lib.rt:133:22
 u32-at-requires : tie.Need-u32-at-requires Inv-loop μ-loop
-u32-at-requires c κs = ?
+u32-at-requires c κs = search needs
 
--- src/lib.rt:133:9
 mul-numbers : tie.Need-mul-numbers Inv-loop μ-loop
-mul-numbers c = ?
+mul-numbers c = search needs
 
--- src/lib.rt:133:9
 slice-write-numbers : tie.Need-slice-write-numbers Inv-loop μ-loop
-slice-write-numbers c = ?
+slice-write-numbers c = omega arith
 
--- src/lib.rt:134:28
 add-take-patterns : tie.Need-add-take-patterns Inv-loop μ-loop
-add-take-patterns c = ?
+add-take-patterns c = omega arith
 
--- src/lib.rt:134:49
 mul-take-patterns : tie.Need-mul-take-patterns Inv-loop μ-loop
-mul-take-patterns c = ?
+mul-take-patterns c = omega arith
 
--- src/lib.rt:134:9
 take-patterns-requires : tie.Need-take-patterns-requires Inv-loop μ-loop
-take-patterns-requires c κs = ?
+take-patterns-requires c κs = (omega arith, omega arith)
 
--- src/lib.rt:135:23
 add-cuts : tie.Need-add-cuts Inv-loop μ-loop
-add-cuts c = ?
+add-cuts c = omega arith
 
--- src/lib.rt:135:19
 shared-slice-read-cuts : tie.Need-shared-slice-read-cuts Inv-loop μ-loop
-shared-slice-read-cuts c = ?
+shared-slice-read-cuts c = omega arith
 
--- src/lib.rt:135:9
 slice-write-cuts : tie.Need-slice-write-cuts Inv-loop μ-loop
-slice-write-cuts c = ?
+slice-write-cuts c = omega arith
 
--- src/lib.rt:131:9
 add-k : tie.Need-add-k Inv-loop μ-loop
-add-k c = ?
+add-k c = omega arith
 
--- src/lib.rt:131:5
 loop-less : tie.Need-loop-less Inv-loop μ-loop
-loop-less c = ?
+loop-less c = omega arith
 
--- src/lib.rt:131:5
 loop-again : tie.Need-loop-again Inv-loop μ-loop
-loop-again c = ?
+loop-again c =
+    let p = c .before .before .before in
+    let b = p .before .before .before .before in
+    let a = b .before .before .before .before .before .args in
+    let log = a .log .now in
+    let k = b .loop .k in
+    let u = p .before .before in
+    let number : u .u32-at .result ≡ field numberLong numberPlace (recordIn log k) =
+    u .u32-at .ensures ∙ number-here numberLong (k * recordLong + numberPlace) log (omega arith) ∙ sym (field-in log k numberLong numberPlace (omega arith)) in
+    let cut : getD log (k * recordLong + cutPlace) 0 ≡ cutField (recordIn log k) = sym (byte-in log k cutPlace (omega arith)) in
+    rw (add-one k)
+    (
+      omega arith,
+      (
+        filled-one (numberOne log) (a .numbers .now) (λ k. refl) (b .loop .numbers) k (b .loop .inv .1 .0) (omega arith) (u .u32-at .result) (ap (λ (x : ℕ). x ∷ []) number),
+        (
+          rw (p .take-patterns .ensures) (filled-more (patternsOne log) (a .bits .now) patternCount (patterns-wide log) (b .loop .bits) k (b .loop .inv .1 .1 .0) (omega arith) _ (sym (patterns-in log k))),
+          filled-one (cutOne log) (a .cuts .now) (λ k. refl) (b .loop .cuts) k (b .loop .inv .1 .1 .1) (omega arith) (getD log (k * recordLong + cutPlace) 0) (ap (λ (x : ℕ). x ∷ []) cut),
+        ),
+      ),
+    )
 
--- src/lib.rt:125:1
 same-length : tie.Need-same-length Inv-loop μ-loop
-same-length c = ?
+same-length c = omega arith
 
--- src/lib.rt:125:1
 same-length-2 : tie.Need-same-length-2 Inv-loop μ-loop
-same-length-2 c = ?
+same-length-2 c = omega arith
 
--- src/lib.rt:125:1
 same-length-3 : tie.Need-same-length-3 Inv-loop μ-loop
-same-length-3 c = ?
+same-length-3 c = omega arith
 
--- src/lib.rt:125:1
 returns : tie.Need-returns Inv-loop μ-loop
-returns c = ?
+returns c =
+    let b = c .before in
+    let all : b .loop .k ≡ b .before .before .before .before .before .args .n = omega arith in
+    let i = rw all at (b .loop .inv .1) in
+    (i .0 .is, (i .1 .0 .is, i .1 .1 .is))
 
 pub take-records-spec : {M : Type 1} → statement M
 take-records-spec =
