@@ -1,5 +1,5 @@
 -- Document 02, L1: "Write and read a log". A log is a list of bytes: whole records, one behind the other, and a rest that is shorter than one.
-use mathlib.Core.Bool.{_||_}
+use mathlib.Core.Bool.{Bool, _||_}
 use mathlib.Core.List.{List, [], _∷_, _++_}
 use Prim.Native.Nat.{ℕ, zero, suc, _+_, _*_, _/_, _%_}
 use lib.Dec.{ltb}
@@ -76,10 +76,12 @@ abbrev pub scanOf : List ℕ → Answer ℕ
 scanOf log = answered (logFault log) (wholeRecords log)
 
 -- read: the same, "then 15 where a list is short of that"
-abbrev pub readFault : List ℕ → List ℕ → List ℕ → List ℕ → ℕ
-readFault log numbers bits cuts =
-    logFault log
-    orElse refusal 15 (ltb (length numbers) (wholeRecords log) || ltb (length bits) (wholeRecords log * patternCount) || ltb (length cuts) (wholeRecords log))
+abbrev pub isShort : List ℕ → List ℕ → List ℕ → List ℕ → Bool
+isShort log numbers bits cuts =
+    ltb (length numbers) (wholeRecords log) || ltb (length bits) (wholeRecords log * patternCount) || ltb (length cuts) (wholeRecords log)
+
+unfoldable pub readFault : List ℕ → List ℕ → List ℕ → List ℕ → ℕ
+readFault log numbers bits cuts = logFault log orElse refusal 15 (isShort log numbers bits cuts)
 
 -- what a lent list holds at exit: the new from its first place on, and "Places past the records stay"
 abbrev pub readInto : ℕ → List ℕ → List ℕ → List ℕ
