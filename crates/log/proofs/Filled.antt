@@ -28,9 +28,9 @@ module _ (g : ℕ → List ℕ) (old : List ℕ) where
         record {
           long = over-long (k * w) xs now (omega (arith, f .long)) ∙ f .long;
           is =
-            ap (overwritten (k * w) xs) (f .is)
-            ∙ over-join 0 (k * w) (joined k g) xs old (omega arith) (sym (zero-add (length (joined k g)) ∙ long))
-            ∙ ap (λ (l : List ℕ). overwritten 0 l old) (ap (λ (l : List ℕ). joined k g ++ l) e ∙ sym (joined-next k g));
+              ap (overwritten (k * w) xs) (f .is)
+              ∙ over-join 0 (k * w) (joined k g) xs old (omega arith) (sym (zero-add (length (joined k g)) ∙ long))
+              ∙ ap (λ (l : List ℕ). overwritten 0 l old) (ap (λ (l : List ℕ). joined k g ++ l) e ∙ sym (joined-next k g));
         }
 
 -- the same for lists of one

@@ -5,3 +5,4 @@ pub mod Filled
 pub mod RecordLaws
 pub mod LogLaws
 pub mod Promised
+pub mod Unique

@@ -125,9 +125,10 @@ module _ (lent : List ℕ) (used : ℕ) (r : Record) where
 
 -- It holds since what a refused call leaves in a lent place is what stood there.
 pub nothing-on-refusal : NothingOnRefusal
-nothing-on-refusal =
-    (λ lent used r h. sym (lent-kept (appendFault lent used r) (appendFault lent used r) (written lent used r) lent refl h),
-    λ fault new old h. sym (lent-kept fault fault (overwritten 0 new old) old refl h))
+nothing-on-refusal = (
+  λ lent used r h. sym (lent-kept (appendFault lent used r) (appendFault lent used r) (written lent used r) lent refl h),
+  λ fault new old h. sym (lent-kept fault fault (overwritten 0 new old) old refl h),
+)
 
 -- It holds since the record ends the log so far, and in the lent memory it stands at the same place.
 pub append-leaves : AppendLeaves

@@ -61,8 +61,13 @@ head-long r = omega (arith, bytes-long numberLong (r .number))
 pub record-long : (r : Record) → length (recordBytes r) ≡ recordLong
 unfolding recordBytes
 record-long r =
-    omega (arith, length-append (head r ++ patternBytes (patterns r)) (r .cut ∷ []), length-append (head r) (patternBytes (patterns r)),
-    head-long r, patterns-long (patterns r))
+    omega (
+      arith,
+      length-append (head r ++ patternBytes (patterns r)) (r .cut ∷ []),
+      length-append (head r) (patternBytes (patterns r)),
+      head-long r,
+      patterns-long (patterns r),
+    )
 
 pub mark-back : (r : Record) → hasMark (recordBytes r) ≡ true
 unfolding recordBytes
@@ -80,9 +85,16 @@ module _ (r : Record) (t : Typed r) where
   number-back = rw append-assoc (field-back numberLong numberPlace (r .number) (0x53 ∷ 0x43 ∷ []) (patternBytes (patterns r) ++ r .cut ∷ []) refl (t .number))
 
   all-fit : AllFit (patterns r)
-  all-fit =
-      (bits-below (r .«inter_cost») (t .inter), (bits-below (r .«imp_block_cost») (t .importance), (bits-below (r .«backward_adjusted_cost») (t .backward),
-      (bits-below (r .«forward_adjusted_cost») (t .forward), (bits-below (r .threshold) (t .limit), tt)))))
+  all-fit = (
+    bits-below (r .«inter_cost») (t .inter),
+    (
+      bits-below (r .«imp_block_cost») (t .importance),
+      (
+        bits-below (r .«backward_adjusted_cost») (t .backward),
+        (bits-below (r .«forward_adjusted_cost») (t .forward), (bits-below (r .threshold) (t .limit), tt)),
+      ),
+    ),
+  )
 
   pattern-here : (j : ℕ) → j < patternCount → field patternLong (patternsPlace + patternLong * j) (recordBytes r) ≡ getD (patterns r) j 0
   unfolding recordBytes

@@ -120,8 +120,7 @@ returns-4 c =
     let a = e .before .before .before .before .before .before .args in
     let lent = a .log .now in
     let at = place lent (a .used) (omega arith) in
-    let none = room lent (a .used) (a .r) (omega arith) (sym (e .before .if2 .left) ∙ e .before .before .new-fault .ensures) (omega (arith, at)) in
-    (
+    let none = room lent (a .used) (a .r) (omega arith) (sym (e .before .if2 .left) ∙ e .before .before .new-fault .ensures) (omega (arith, at)) in (
       answer-given _ _ _ none (ap (λ (n : ℕ). n + recordLong) at),
       p .put-record .ensures ∙ ap (λ (n : ℕ). overwritten n (recordBytes (a .r)) lent) at ∙ lent-written _ _ _ none,
     )

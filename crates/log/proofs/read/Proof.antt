@@ -38,8 +38,7 @@ returns c =
     let f = c .before .log-fault in
     let a = c .before .before .before .before .before .before .args in
     let h = c .if1 .taken in
-    let e = or-given (f .result) _ (refusal 15 (isShort (a .log .now) (a .numbers .now) (a .bits .now) (a .cuts .now))) (f .ensures) h in
-    (
+    let e = or-given (f .result) _ (refusal 15 (isShort (a .log .now) (a .numbers .now) (a .bits .now) (a .cuts .now))) (f .ensures) h in (
       answer-refused (f .result) _ _ e h,
       (lent-kept (f .result) _ _ _ e h, (lent-kept (f .result) _ _ _ e h, (lent-kept (f .result) _ _ _ e h, lent-kept (f .result) _ _ _ e h))),
     )
@@ -79,8 +78,7 @@ returns-3 c =
     let e = t .before .before .before .before in
     let f = e .before .before .log-fault in
     let none = or-later 0 _ _ (sym (e .before .if1 .left) ∙ f .ensures) (test-passed 15 _ (e .if2 .left)) in
-    let took = t .take-records .ensures in
-    (
+    let took = t .take-records .ensures in (
       answer-given _ _ _ none refl,
       (took .0 ∙ lent-written _ _ _ none, (took .1 .0 ∙ lent-written _ _ _ none, (took .1 .1 ∙ lent-written _ _ _ none, lent-written _ _ _ none))),
     )

@@ -61,8 +61,7 @@ loop-again c =
     let so-far = joined j (patternAt (a .at) log) in
     let long : length so-far ≡ j = omega (arith, joined-long 1 (patternAt (a .at) log) (λ k. refl) j) in
     let place : to + j ≡ to + length so-far = omega arith in
-    let value : c .u64-at .result ≡ field patternLong (a .at + j * patternLong) log = c .u64-at .ensures ∙ number-here patternLong (a .at + j * patternLong) log (omega arith) in
-    (
+    let value : c .u64-at .result ≡ field patternLong (a .at + j * patternLong) log = c .u64-at .ensures ∙ number-here patternLong (a .at + j * patternLong) log (omega arith) in (
       omega arith,
       (
         length-set (b .loop .bits) (to + j) (c .u64-at .result) ∙ b .loop .inv .1 .0,

@@ -82,8 +82,7 @@ loop-again c =
     let number : u .u32-at .result ≡ field numberLong numberPlace (recordIn log k) =
     u .u32-at .ensures ∙ number-here numberLong (k * recordLong + numberPlace) log (omega arith) ∙ sym (field-in log k numberLong numberPlace (omega arith)) in
     let cut : getD log (k * recordLong + cutPlace) 0 ≡ cutField (recordIn log k) = sym (byte-in log k cutPlace (omega arith)) in
-    rw (add-one k)
-    (
+    rw (add-one k) (
       omega arith,
       (
         filled-one (numberOne log) (a .numbers .now) (λ k. refl) (b .loop .numbers) k (b .loop .inv .1 .0) (omega arith) (u .u32-at .result) (ap (λ (x : ℕ). x ∷ []) number),

@@ -63,8 +63,7 @@ loop-again c =
     let i = b .loop .i in
     let more : n - (i - 1) ≡ suc (n - i) = omega arith in
     let next : suc (at + (i - 1)) ≡ at + i = omega arith in
-    let power : 256 ^ suc (n - i) ≡ 256 * 256 ^ (n - i) = pow-succ' 256 (n - i) in
-    (
+    let power : 256 ^ suc (n - i) ≡ 256 * 256 ^ (n - i) = pow-succ' 256 (n - i) in (
       omega arith,
       rw more (
         number-of (getD s (at + (i - 1)) 0) (b .loop .x) _ (b .loop .inv .1 .0 ∙ ap (λ (k : ℕ). numberOf (take (n - i) (drop k s))) (sym next)) ∙ sym (number-more s (at + (i - 1)) (n - i) (omega arith)),

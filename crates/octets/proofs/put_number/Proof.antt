@@ -46,8 +46,7 @@ loop-again c =
     let x = b .before .args .x in
     let i = b .loop .i in
     let long : length (bytesOf i x) ≡ i = bytes-long i x in
-    let place : at + i ≡ at + length (bytesOf i x) = omega arith in
-    (
+    let place : at + i ≡ at + length (bytesOf i x) = omega arith in (
       omega arith,
       (
         length-set (b .loop .s) (at + i) (b .loop .rest % 256) ∙ b .loop .inv .1 .0,
