@@ -6,13 +6,12 @@ use Prim.Native.Nat.{ℕ, zero, suc, _+_, _*_, _^_, _≤_, _<_}
 use native.Mathlib.Omega.{arith}
 use borrow.Author.Tests.{ltb-false, le-ltb, not-false}
 use lib.Dec.{ltb}
-use lib.Ieee.{nan, binary64, toBits}
 use lib.ListN.{length, getD, length-append}
 use lib.Seq.{take-at, drop-at, getD-at}
 use Rattle.answer.specs.Refusal.{refusal, _orElse_}
 use Rattle.answer.proofs.Laws.{or-none, or-both, or-later, passed}
 use Rattle.octets.specs.Octets.{bytesOf}
-use Rattle.octets.proofs.Laws.{bytes-long, number-bytes, nan-pattern, bits-below}
+use Rattle.octets.proofs.Laws.{bytes-long, number-bytes, bits-below}
 use Rattle.log.specs.declared.Record.{Record}
 use Rattle.log.specs.Records.{recordLong, numberPlace, numberLong, patternsPlace, patternLong, patternCount, cutPlace, patterns, patternBytes, recordBytes}
 use Rattle.log.specs.Records.{hasMark, field, numberField, patternFields, cutField, bytesFault}
@@ -104,11 +103,6 @@ module _ (r : Record) (t : Typed r) where
   unfolding patternFields
   patterns-back =
       rw (pattern-here 0 (omega arith), pattern-here 1 (omega arith), pattern-here 2 (omega arith), pattern-here 3 (omega arith), pattern-here 4 (omega arith))
-
--- "NaNs are written as 7FF8000000000000 (hex)": whichever of the five is one, this is read in its place
-pub nan-written : (r : Record) → Typed r → (j : ℕ) → j < patternCount → getD (patterns r) j 0 ≡ toBits binary64 nan
-    → field patternLong (patternsPlace + patternLong * j) (recordBytes r) ≡ 0x7FF8_0000_0000_0000
-nan-written r t j l e = pattern-here r t j l ∙ e ∙ nan-pattern
 
 -- ---- a record's fault
 

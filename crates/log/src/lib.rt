@@ -2,7 +2,7 @@
 // writes over.
 ghost use mathlib.Core.Path.{_≡_};
 ghost use Prim.Native.Nat.{suc, _+_, _*_, _≤_};
-ghost use lib.ListN.{length, take, drop};
+ghost use lib.ListN.{length};
 ghost use Rattle.answer.specs.Answer.{wholeAnswer, answered, lentAfter};
 ghost use Rattle.answer.specs.Refusal.{_orElse_};
 ghost use Rattle.octets.specs.Octets.{overwritten};

@@ -1,12 +1,10 @@
 -- `log::new_fault` meets its contract: the records that are there first, then the new one's cut and its number. Assumes nothing.
-use mathlib.Core.Path.{_≡_, sym, _∙_}
-use Prim.Native.Nat.{_≤_}
+use mathlib.Core.Path.{sym, _∙_}
 use borrow.Author.Needs.{needs}
 use borrow.Author.Tests.{lt-ltb, le-ltb}
 use lib.Dec.{ltb}
-use Rattle.answer.specs.Refusal.{refusal}
 use Rattle.answer.proofs.Laws.{or-given, or-later, test-given, test-first, test-passed, test-later}
-use Rattle.log.specs.Log.{wholeRecords, leastAfter, logFault, newFault}
+use Rattle.log.specs.Log.{wholeRecords, leastAfter, newFault}
 use Rattle.log.proofs.new_fault.Statement.{statement}
 use Rattle.log.proofs.new_fault.Tie as tie
 

@@ -1,9 +1,8 @@
 -- `log::record_fault` meets its contract: the mark, the cut and the number are those of record k. Assumes nothing.
 use mathlib.Core.Path.{_≡_, sym, _∙_}
-use Prim.Native.Nat.{ℕ, _+_, _*_, _≤_, _<_}
+use Prim.Native.Nat.{_+_, _*_, _≤_}
 use native.Mathlib.Omega.{arith}
 use borrow.Author.Needs.{needs}
-use lib.ListN.{getD}
 use Rattle.octets.proofs.Laws.{number-here}
 use Rattle.log.specs.Records.{recordLong, numberField, cutField}
 use Rattle.log.specs.Log.{recordIn, leastAfter}
