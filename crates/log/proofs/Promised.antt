@@ -14,12 +14,12 @@ use Rattle.octets.specs.Octets.{overwritten}
 use Rattle.octets.proofs.Laws.{nan-pattern}
 use Rattle.octets.proofs.Over.{over-take, over-past, over-again, over-end, over-rest}
 use Rattle.log.specs.declared.Record.{Record}
-use Rattle.log.specs.Records.{recordLong, patterns, recordBytes, numberField, patternFields, cutField}
+use Rattle.log.specs.Records.{recordLong, patterns, recordBytes, numberField, patternFields, cutField, laterFault}
 use Rattle.log.specs.Log.{wholeRecords, tornRest, wholeLong, recordIn, leastAfter, recordFault, logFault, numbersOf, patternsOf, cutsOf}
 use Rattle.log.specs.Log.{newFault, appendFault, appended, lentAfterAppend}
 use Rattle.log.specs.Promises.{Reading, readingOf, andRecord, andRest, cutShort, cardAfter, AllTaken, readAll}
 use Rattle.log.specs.Promises.{AppendLeaves, RoundTrip, StaysALog, PowerCut, AfterTheCut, NothingOnRefusal, EndWillDo, CardsLife, ScanAccepts, OnePattern, ByPlace}
-use Rattle.log.proofs.RecordLaws.{record-long, number-back, patterns-back, cut-back, laterFault, fault-written, Sound, sound}
+use Rattle.log.proofs.RecordLaws.{record-long, number-back, patterns-back, cut-back, fault-written, Sound, sound}
 use Rattle.log.proofs.LogLaws.{records-stay, rest-reaches, fault-stays, least-stays, fields-stay, no-rest, fault-more, fields-more}
 use Rattle.log.proofs.LogLaws.{number-at, pattern-at, cut-at, end-records, end-rises, end-accepted}
 use Rattle.log.proofs.Each.{earliest-each}

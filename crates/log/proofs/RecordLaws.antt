@@ -14,7 +14,7 @@ use Rattle.octets.specs.Octets.{bytesOf}
 use Rattle.octets.proofs.Laws.{bytes-long, number-bytes, bits-below}
 use Rattle.log.specs.declared.Record.{Record}
 use Rattle.log.specs.Records.{recordLong, numberPlace, numberLong, patternsPlace, patternLong, patternCount, cutPlace, patterns, patternBytes, recordBytes}
-use Rattle.log.specs.Records.{hasMark, field, numberField, patternFields, cutField, bytesFault}
+use Rattle.log.specs.Records.{hasMark, field, numberField, patternFields, cutField, laterFault, bytesFault}
 use Rattle.log.specs.Promises.{Typed}
 
 -- ---- a field among other bytes
@@ -105,10 +105,6 @@ module _ (r : Record) (t : Typed r) where
       rw (pattern-here 0 (omega arith), pattern-here 1 (omega arith), pattern-here 2 (omega arith), pattern-here 3 (omega arith), pattern-here 4 (omega arith))
 
 -- ---- a record's fault
-
--- what is tested behind the mark: the cut, then the number
-abbrev pub laterFault : ℕ → ℕ → ℕ → ℕ
-laterFault cut number least = refusal 13 (ltb 1 cut) orElse refusal 14 (ltb number least)
 
 -- a record that is not at fault
 pub record Sound (least : ℕ) (bs : List ℕ) : Type 0 where
