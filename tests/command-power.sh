@@ -11,14 +11,9 @@ night='50 53 93 95 96 101 106 110 111 113'
 whole=$room/whole.log
 pipe=$room/pipe
 
-frames() { # FROM COUNT
-    from=$1 count=$2
-    set -- $night
-    shift "$from"
-    while [ $# -gt "$count" ]; do
-        set -- $(echo "$@" | sed 's/ [0-9]*$//')
-    done
-    film y4m 16 16 mono "$@"
+# The film from frame FROM on, up to frame END, which is no longer in it.
+frames() { # FROM END
+    film y4m 16 16 mono $(echo "$night" | cut -d ' ' -f "$(($1 + 1))-$2")
 }
 
 for from in 0 1 2 3 4 5; do frames $from 10 > "$room/rest$from.y4m"; done
@@ -47,7 +42,7 @@ verdict "a log that is cut at every length" $?
 
 # A film that breaks off in its last frame: the log has what was decided before, the standard output nothing.
 rm -f "$log"
-head -c -1 "$room/rest0.y4m" > "$room/short.y4m"
+head -c $(($(wc -c < "$room/rest0.y4m") - 1)) "$room/rest0.y4m" > "$room/short.y4m"
 ends "a film that breaks off" 2 "frame 9 is cut short" decide "$room/short.y4m" --log "$log"
 head -c $((3 * 47)) "$whole" | cmp -s - "$log"
 verdict "a film that breaks off: its log" $?
@@ -73,12 +68,12 @@ command_run decide "$room/rest.y4m" --first "$records" --log "$log"
 [ "$status" = 0 ] && cmp -s "$log" "$kept"
 verdict "a full disk under the log: going on" $?
 
-# Waits until the file has so many bytes, for a minute at most.
-grown() { # FILE BYTES
+# Waits until the log has so many bytes: for a minute at most, and while the command lives.
+grown() { # BYTES
     tries=0
-    while [ "$({ wc -c < "$1"; } 2> /dev/null)" != "$2" ]; do
+    until [ -f "$log" ] && [ "$(wc -c < "$log")" -ge "$1" ]; do
         tries=$((tries + 1))
-        [ "$tries" -le 1200 ] || return 1
+        [ "$tries" -le 1200 ] && kill -0 "$process" 2> /dev/null || return 1
         sleep 0.05
     done
 }
@@ -92,7 +87,7 @@ start_fed() { # COUNT
     $RUN "$COMMAND" decide "$pipe" --csv --log "$log" > "$room/fed" 2> "$room/err" 9>&- &
     process=$!
     frames 0 "$1" >&9
-    grown "$log" $((($1 - 6) * 47))
+    grown $((($1 - 6) * 47))
 }
 
 for fed in 7 8 9 10; do
@@ -113,8 +108,7 @@ spares "a log in use" 2 "this log is in use" decide "$room/rest5.y4m" --log "$lo
 command_run log "$log"
 [ "$status" = 0 ] && [ "$(tail -n 1 "$room/out")" = "2 records, 1 cut" ]
 verdict "a log in use can be read" $?
-frames 0 8 | wc -c > "$room/sent"
-tail -c +$(($(cat "$room/sent") + 1)) "$room/rest0.y4m" >&9
+tail -c +$(($(frames 0 8 | wc -c) + 1)) "$room/rest0.y4m" >&9
 exec 9>&-
 wait "$process"
 [ $? = 0 ] && cmp -s "$log" "$whole" && [ "$(wc -l < "$room/fed")" = 11 ]

@@ -29,10 +29,10 @@ static enum status sync_folder(const struct journal *journal, off_t size)
         return fault(journal);
     strrchr(path, '/')[1] = '\0';
     const int folder = open(path, O_RDONLY | O_DIRECTORY | O_CLOEXEC);
-    free(path);
     const enum status status = folder < 0 || fsync(folder) != 0 ? fault(journal) : DONE;
     if (folder >= 0)
         close(folder);
+    free(path);
     return status;
 }
 
