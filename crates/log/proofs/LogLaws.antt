@@ -1,11 +1,14 @@
 -- Logs by their records: what depends on the first n records alone, what the reader gives at each place, what an overwritten log holds, and what its end
 -- holds. Assumes nothing.
 use mathlib.Core.Path.{_≡_, refl, sym, ap, ap₂, _∙_}
+use mathlib.Core.Bool.{Bool, true, false}
 use mathlib.Core.List.{List, [], _∷_, _++_}
 use Prim.Native.Nat.{ℕ, zero, suc, _+_, _-_, _*_, _≤_, _<_, max}
 use native.Mathlib.Omega.{arith}
+use borrow.Author.Tests.{leb-true, leb-false}
+use lib.Dec.{leb}
 use lib.ListN.{length, take, drop, getD, length-drop}
-use lib.Seq.{drop-drop}
+use lib.Seq.{take-take, drop-drop, length-take-le}
 use Rattle.octets.specs.Octets.{overwritten}
 use Rattle.octets.proofs.Over.{over-front, over-here, over-length}
 use Rattle.log.specs.Records.{recordLong, patternLong, patternCount, patternsPlace, field, numberField, patternFields, cutField, bytesFault}
@@ -158,6 +161,39 @@ module _ (log : List ℕ) (j : ℕ) where
       let there : recordFault log (j + k) ≡ 0 = earliest-each (wholeRecords log) (recordFault log) e (j + k) (omega (arith, end-records h)) in
       ap (bytesFault (leastAfter end k)) (end-record k)
       ∙ fault-lower (leastAfter end k) (leastAfter log (j + k)) (recordIn log (j + k)) (least-lower k) there)
+
+  -- a log that is accepted up to record j ..
+  module _ (h : j < wholeRecords log) (front : logFault (take (suc j * recordLong) log) ≡ 0) where
+    abbrev piece : List ℕ
+    piece = take (suc j * recordLong) log
+
+    accepted-before : (k : ℕ) → k ≤ j → recordFault log k ≡ 0
+    unfolding logFault
+    accepted-before k l =
+        let long : length piece ≡ suc j * recordLong = length-take-le (suc j * recordLong) log (omega arith) in
+        let same : take (suc j * recordLong) log ≡ take (suc j * recordLong) piece = sym (take-take (suc j * recordLong) (suc j * recordLong) log (omega arith)) in
+        ap₂ bytesFault (least-same log piece (suc j) same k (omega arith)) (record-same log piece (suc j) same k (omega arith))
+        ∙ earliest-each (wholeRecords piece) (recordFault piece) front k (omega arith)
+
+    -- .. and from it on
+    module _ (back : logFault end ≡ 0) where
+      accepted-behind : (k : ℕ) → k < wholeRecords log → j < k → recordFault log k ≡ 0
+      unfolding logFault
+      accepted-behind k l later =
+          let i : ℕ = k - suc j in
+          let place : k ≡ j + suc i = omega arith in
+          let next : j + suc i ≡ suc (j + i) = omega arith in
+          ap (recordFault log) place
+          ∙ ap₂ bytesFault (ap (leastAfter log) next ∙ sym (end-least i)) (sym (end-record (suc i)))
+          ∙ earliest-each (wholeRecords end) (recordFault end) back (suc i) (omega (arith, end-records (omega arith)))
+
+      pub pieces-accepted : logFault log ≡ 0
+      unfolding logFault
+      pieces-accepted = earliest-none (wholeRecords log) (recordFault log) (λ k l. by k l (leb k j) (leb-true k j) (leb-false k j))
+        where
+          by : (k : ℕ) → k < wholeRecords log → (b : Bool) → (b ≡ true → k ≤ j) → (b ≡ false → j < k) → recordFault log k ≡ 0
+          by k l true is isn't = accepted-before k (is refl)
+          by k l false is isn't = accepted-behind k l (isn't refl)
 
   -- behind its last one too
   pub end-rises : j < wholeRecords log → leastAfter end (wholeRecords end) ≡ leastAfter log (wholeRecords log)

@@ -18,10 +18,10 @@ use Rattle.log.specs.Records.{recordLong, patterns, recordBytes, numberF
 use Rattle.log.specs.Log.{wholeRecords, tornRest, wholeLong, recordIn, leastAfter, recordFault, logFault, numbersOf, patternsOf, cutsOf}
 use Rattle.log.specs.Log.{newFault, appendFault, appended, lentAfterAppend}
 use Rattle.log.specs.Promises.{Reading, readingOf, andRecord, andRest, cutShort, cardAfter, AllTaken, readAll}
-use Rattle.log.specs.Promises.{AppendLeaves, RoundTrip, StaysALog, PowerCut, AfterTheCut, NothingOnRefusal, EndWillDo, CardsLife, ScanAccepts, OnePattern, ByPlace}
+use Rattle.log.specs.Promises.{AppendLeaves, RoundTrip, StaysALog, PowerCut, AfterTheCut, NothingOnRefusal, EndWillDo, InPieces, CardsLife, ScanAccepts, OnePattern, ByPlace}
 use Rattle.log.proofs.RecordLaws.{record-long, number-back, patterns-back, cut-back, fault-written, Sound, sound}
 use Rattle.log.proofs.LogLaws.{records-stay, rest-reaches, fault-stays, least-stays, fields-stay, no-rest, fault-more, fields-more}
-use Rattle.log.proofs.LogLaws.{number-at, pattern-at, cut-at, end-records, end-rises, end-accepted}
+use Rattle.log.proofs.LogLaws.{number-at, pattern-at, cut-at, end-records, end-rises, end-accepted, pieces-accepted}
 use Rattle.log.proofs.Each.{earliest-each}
 
 -- It holds since the new record stands behind the old ones, and each of its fields is read back from its bytes.
@@ -166,6 +166,10 @@ end-will-do log j e l = record {
 
     there : wholeLong log ≡ front + wholeLong (drop front log)
     there = omega (arith, end-records log j (omega arith))
+
+-- It holds since each record but the first of a piece is tested there as in the whole log.
+pub in-pieces : InPieces
+in-pieces log j h front back = pieces-accepted log j h front back
 
 -- It holds since a log with no fault has no record at fault.
 pub scan-accepts : ScanAccepts

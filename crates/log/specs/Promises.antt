@@ -106,7 +106,14 @@ pub record EndAlone (log : List ℕ) (j : ℕ) : Type 0 where
 abbrev pub EndWillDo : Type 0
 EndWillDo = (log : List ℕ) (j : ℕ) → logFault log ≡ 0 → j < wholeRecords log → EndAlone log j
 
--- 8. A card's life: appends one after the other, each of which the power may cut after k of its bytes.
+-- 8. A log may be scanned in pieces: accepted up to record j and from record j on, it is accepted. Record j stands in both, so that numbers are
+-- seen to rise from one piece to the next.
+abbrev pub InPieces : Type 0
+InPieces =
+    (log : List ℕ) (j : ℕ) → j < wholeRecords log
+    → logFault (take (suc j * recordLong) log) ≡ 0 → logFault (drop (j * recordLong) log) ≡ 0 → logFault log ≡ 0
+
+-- 9. A card's life: appends one after the other, each of which the power may cut after k of its bytes.
 pub record Try : Type 0 where
   pub what : Record
   pub bytes : ℕ
@@ -133,7 +140,7 @@ CardsLife =
     (log : List ℕ) (ts : List Try) → logFault log ≡ 0 → AllTaken log ts
     → (logFault (cardAfter log ts) ≡ 0) × (readingOf (cardAfter log ts) ≡ readAll (readingOf log) ts)
 
--- 9. What scan accepts: every record has the mark, numbers rise strictly, and each cut is 0 or 1.
+-- 10. What scan accepts: every record has the mark, numbers rise strictly, and each cut is 0 or 1.
 pub record InOrder (log : List ℕ) : Type 0 where
   pub marks : (k : ℕ) → k < wholeRecords log → hasMark (recordIn log k) ≡ true
   pub rise : (k : ℕ) → suc k < wholeRecords log → getD (numbersOf log) k 0 < getD (numbersOf log) (suc k) 0
@@ -142,7 +149,7 @@ pub record InOrder (log : List ℕ) : Type 0 where
 abbrev pub ScanAccepts : Type 0
 ScanAccepts = (log : List ℕ) → logFault log ≡ 0 → InOrder log
 
--- 10. Where the reader puts it: record k's number is numbers[k], its patterns are bits[5 * k] to bits[5 * k + 4], and its cut is cuts[k].
+-- 11. Where the reader puts it: record k's number is numbers[k], its patterns are bits[5 * k] to bits[5 * k + 4], and its cut is cuts[k].
 pub record Placed (log : List ℕ) (k : ℕ) : Type 0 where
   pub number : getD (numbersOf log) k 0 ≡ numberField (recordIn log k)
   pub pattern : (j : ℕ) → j < patternCount
