@@ -1,4 +1,4 @@
-// The library for C. Each function answers a number at or above 0, or the number of document 01's refusal negated. What it
+// The library for C. Each function answers a number at or above 0, or a refusal's number negated. What it
 // writes to lent places is in its contract, whole.
 ghost use mathlib.Core.Path.{_≡_};
 ghost use Rattle.hadamard.specs.Transform.{transformFault, afterTransform};

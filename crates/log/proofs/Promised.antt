@@ -1,11 +1,12 @@
 -- The proofs of what specs/Promises.antt promises a recorder's author. Assumes nothing.
 use mathlib.Core.Path.{_≡_, refl, sym, ap, _∙_}
-use mathlib.Core.Bool.{Bool, true, false, cond}
+use mathlib.Core.Bool.{Bool, true, false, cond, true≢false}
 use mathlib.Core.List.{List, [], _∷_, _++_}
-use Prim.Native.Nat.{ℕ, suc, _+_, _*_, _≤_, _<_, max}
+use Prim.Native.Nat.{ℕ, zero, suc, _+_, _*_, _≤_, _<_, max}
 use native.Mathlib.Omega.{arith}
 use borrow.Author.Tests.{eqb-true, eqb-false, ltb-false}
 use lib.Dec.{eqb, ltb}
+use lib.Ieee.{nan, inf, fin, isNan}
 use lib.ListN.{length, take, drop, length-take}
 use lib.Seq.{take-all, take-take, length-take-le}
 use Rattle.answer.specs.Refusal.{refusal, _orElse_}
@@ -16,13 +17,13 @@ use Rattle.octets.proofs.Over.{over-take, over-past, over-again, over-end, over
 use Rattle.log.specs.declared.Record.{Record}
 use Rattle.log.specs.Records.{recordLong, patterns, recordBytes, numberField, patternFields, cutField, laterFault}
 use Rattle.log.specs.Log.{wholeRecords, tornRest, wholeLong, recordIn, leastAfter, recordFault, logFault, numbersOf, patternsOf, cutsOf}
-use Rattle.log.specs.Log.{newFault, appendFault, appended, lentAfterAppend}
-use Rattle.log.specs.Promises.{Reading, readingOf, andRecord, andRest, cutShort, cardAfter, AllTaken, readAll}
+use Rattle.log.specs.Log.{readFault, newFault, appendFault, appended, lentAfterAppend}
+use Rattle.log.specs.Promises.{Reading, readingOf, andRecord, andRest, cutShort, Untouched, cardAfter, AllTaken, readAll, InOrder}
 use Rattle.log.specs.Promises.{AppendLeaves, RoundTrip, StaysALog, PowerCut, AfterTheCut, NothingOnRefusal, EndWillDo, InPieces, CardsLife, ScanAccepts, OnePattern, ByPlace}
-use Rattle.log.proofs.RecordLaws.{record-long, number-back, patterns-back, cut-back, fault-written, Sound, sound}
+use Rattle.log.proofs.RecordLaws.{record-long, number-back, patterns-back, cut-back, fault-written, Sound, sound, passes}
 use Rattle.log.proofs.LogLaws.{records-stay, rest-reaches, fault-stays, least-stays, fields-stay, no-rest, fault-more, fields-more}
 use Rattle.log.proofs.LogLaws.{number-at, pattern-at, cut-at, end-records, end-rises, end-accepted, pieces-accepted}
-use Rattle.log.proofs.Each.{earliest-each}
+use Rattle.log.proofs.Each.{earliest-none, earliest-each}
 
 -- It holds since the new record stands behind the old ones, and each of its fields is read back from its bytes.
 pub round-trip : RoundTrip
@@ -37,8 +38,12 @@ round-trip log r t = λ i. record { numbers = numbers i; bits = bits i; cuts = c
     cuts : cutsOf (appended log r) ≡ cutsOf log ++ r .cut ∷ []
     cuts = fields-more log (recordBytes r) (record-long r) (λ bs. cutField bs ∷ []) ∙ ap (λ (c : ℕ). cutsOf log ++ c ∷ []) (cut-back r)
 
+-- It holds since the account of IEEE 754 has one NaN.
 pub one-pattern : OnePattern
-one-pattern = nan-pattern
+unfolding isNan
+one-pattern nan e = nan-pattern
+one-pattern (inf s) e = absurd (true≢false (sym e))
+one-pattern (fin s m k) e = absurd (true≢false (sym e))
 
 -- It holds since the old records stay as they were, and the new one is at fault only where the append is refused.
 pub stays-a-log : StaysALog
@@ -90,15 +95,13 @@ power-cut log r k t takes l = by-case (eqb k recordLong) (eqb-true k recordLong)
 -- It holds since the next record goes over the rest, and the records before it are the same.
 pub after-the-cut : AfterTheCut
 unfolding newFault
-after-the-cut log r next k l = (fault, bytes)
-  where
-    fault : newFault (cutShort k log r) next ≡ newFault log next
-    fault = ap (laterFault (next .cut) (next .number)) (least-stays log (part log r k l) (short log r k l))
-
-    bytes : appended (cutShort k log r) next ≡ appended log next
-    bytes =
-        ap (λ (n : ℕ). overwritten (n * recordLong) (recordBytes next) (cutShort k log r)) (records-stay log (part log r k l) (short log r k l))
-        ∙ over-again (wholeLong log) (recordBytes next) (part log r k l) log (omega arith) (omega (arith, short log r k l, record-long next))
+after-the-cut log r k l = record {
+  old = fault-stays log (part log r k l) (short log r k l);
+  new = λ next. ap (laterFault (next .cut) (next .number)) (least-stays log (part log r k l) (short log r k l));
+  bytes = λ next.
+      ap (λ (n : ℕ). overwritten (n * recordLong) (recordBytes next) (cutShort k log r)) (records-stay log (part log r k l) (short log r k l))
+      ∙ over-again (wholeLong log) (recordBytes next) (part log r k l) log (omega arith) (omega (arith, short log r k l, record-long next));
+}
 
 -- It holds by going from append to append: each leaves a log of which the power cut's promise speaks.
 pub cards-life : CardsLife
@@ -130,10 +133,20 @@ module _ (lent : List ℕ) (used : ℕ) (r : Record) where
 
 -- It holds since what a refused call leaves in a lent place is what stood there.
 pub nothing-on-refusal : NothingOnRefusal
-nothing-on-refusal = (
-  λ lent used r h. sym (lent-kept (appendFault lent used r) (appendFault lent used r) (written lent used r) lent refl h),
-  λ fault new old h. sym (lent-kept fault fault (overwritten 0 new old) old refl h),
-)
+nothing-on-refusal = (append, read)
+  where
+    append : (lent : List ℕ) (used : ℕ) (r : Record) → (appendFault lent used r ≡ 0 → ⊥) → lentAfterAppend lent used r ≡ lent
+    append lent used r h = sym (lent-kept (appendFault lent used r) (appendFault lent used r) (written lent used r) lent refl h)
+
+    read : (log numbers bits cuts : List ℕ) (torn : ℕ) → (readFault log numbers bits cuts ≡ 0 → ⊥) → Untouched log numbers bits cuts torn
+    read log numbers bits cuts torn h =
+        let fault : ℕ = readFault log numbers bits cuts in
+        record {
+          number = sym (lent-kept fault fault (overwritten 0 (numbersOf log) numbers) numbers refl h);
+          pattern = sym (lent-kept fault fault (overwritten 0 (patternsOf log) bits) bits refl h);
+          cut = sym (lent-kept fault fault (overwritten 0 (cutsOf log) cuts) cuts refl h);
+          rest = sym (lent-kept fault fault (tornRest log) torn refl h);
+        }
 
 -- It holds since the record ends the log so far, and in the lent memory it stands at the same place.
 pub append-leaves : AppendLeaves
@@ -171,17 +184,29 @@ end-will-do log j e l = record {
 pub in-pieces : InPieces
 in-pieces log j h front back = pieces-accepted log j h front back
 
--- It holds since a log with no fault has no record at fault.
+-- It holds since a log has no fault exactly when none of its records is at fault.
 pub scan-accepts : ScanAccepts
 unfolding logFault leastAfter
-scan-accepts log e = record {
-  marks = λ k l. here k l .mark;
-  rise = λ k l. rw (number-at log k (omega arith), number-at log (suc k) l) (here (suc k) l .rises);
-  cut-or-none = λ k l. rw (cut-at log k l) (here k l .cut);
-}
+scan-accepts log = (there, λ o. earliest-none (wholeRecords log) (recordFault log) (back o))
   where
-    here : (k : ℕ) → k < wholeRecords log → Sound (leastAfter log k) (recordIn log k)
-    here k l = sound (leastAfter log k) (recordIn log k) (earliest-each (wholeRecords log) (recordFault log) e k l)
+    here : logFault log ≡ 0 → (k : ℕ) → k < wholeRecords log → Sound (leastAfter log k) (recordIn log k)
+    here e k l = sound (leastAfter log k) (recordIn log k) (earliest-each (wholeRecords log) (recordFault log) e k l)
+
+    there : logFault log ≡ 0 → InOrder log
+    there e = record {
+      marks = λ k l. here e k l .mark;
+      rise = λ k l. rw (number-at log k (omega arith), number-at log (suc k) l) (here e (suc k) l .rises);
+      cut-or-none = λ k l. rw (cut-at log k l) (here e k l .cut);
+    }
+
+    rises : InOrder log → (k : ℕ) → k < wholeRecords log → leastAfter log k ≤ numberField (recordIn log k)
+    rises o zero l = omega arith
+    rises o (suc k) l = rw (number-at log k (omega arith), number-at log (suc k) l) at (o .rise k l)
+
+    back : InOrder log → (k : ℕ) → k < wholeRecords log → recordFault log k ≡ 0
+    back o k l =
+        passes (leastAfter log k) (recordIn log k)
+        (record { mark = o .marks k l; cut = rw (cut-at log k l) at (o .cut-or-none k l); rises = rises o k l })
 
 -- It holds since each record gives as many items as every other.
 pub by-place : ByPlace

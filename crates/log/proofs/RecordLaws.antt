@@ -123,12 +123,16 @@ sound least bs e =
       rises = ltb-false (numberField bs) least (passed 13 (ltb (numberField bs) least) number);
     }
 
+pub passes : (least : ℕ) (bs : List ℕ) → Sound least bs → bytesFault least bs ≡ 0
+unfolding bytesFault
+passes least bs s =
+    rw (s .mark, le-ltb 1 (cutField bs) (s .cut), le-ltb (numberField bs) least (s .rises)) (or-both 0 (0 orElse 0) refl (or-both 0 0 refl refl))
+
 -- a record that rises above a number rises above a lower one
 pub fault-lower : (low high : ℕ) (bs : List ℕ) → low ≤ high → bytesFault high bs ≡ 0 → bytesFault low bs ≡ 0
-unfolding bytesFault
 fault-lower low high bs l e =
     let s : Sound high bs = sound high bs e in
-    rw (s .mark, le-ltb 1 (cutField bs) (s .cut), le-ltb (numberField bs) low (omega arith)) (or-both 0 (0 orElse 0) refl (or-both 0 0 refl refl))
+    passes low bs (record { mark = s .mark; cut = s .cut; rises = omega arith })
 
 -- of a record as it is written the mark is never at fault
 pub fault-written : (r : Record) → Typed r → (least : ℕ) → bytesFault least (recordBytes r) ≡ laterFault (r .cut) (r .number) least

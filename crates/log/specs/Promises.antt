@@ -5,13 +5,14 @@ use mathlib.Core.Bool.{true, cond}
 use mathlib.Core.List.{List, [], _∷_, _++_}
 use Prim.Native.Nat.{ℕ, suc, _+_, _*_, _≤_, _<_, _^_, max}
 use lib.Dec.{T, eqb}
-use lib.Ieee.{binary64, fits, nan, toBits}
+use lib.Ieee.{Float, binary64, fits, isNan, toBits}
 use lib.ListN.{length, take, drop, getD}
+use Rattle.answer.specs.Answer.{lentAfter}
 use Rattle.octets.specs.Octets.{overwritten}
 use Rattle.log.specs.declared.Record.{Record}
 use Rattle.log.specs.Records.{recordLong, patternsPlace, patternLong, patternCount, patterns, recordBytes, hasMark, field, numberField, cutField}
 use Rattle.log.specs.Log.{wholeRecords, tornRest, wholeLong, recordIn, logFault, numbersOf, patternsOf, cutsOf}
-use Rattle.log.specs.Log.{readInto, newFault, appendFault, appended, lentAfterAppend}
+use Rattle.log.specs.Log.{readFault, readInto, newFault, appendFault, appended, lentAfterAppend}
 
 -- ---- the words
 
@@ -70,7 +71,7 @@ abbrev pub RoundTrip : Type 0
 RoundTrip = (log : List ℕ) (r : Record) → Typed r → readingOf (appended log r) ≡ andRecord (readingOf log) r
 
 abbrev pub OnePattern : Type 0
-OnePattern = toBits binary64 nan ≡ 0x7FF8_0000_0000_0000
+OnePattern = (x : Float) → isNan x ≡ true → toBits binary64 x ≡ 0x7FF8_0000_0000_0000
 
 -- 3. Appending keeps it a log.
 abbrev pub StaysALog : Type 0
@@ -84,17 +85,27 @@ PowerCut =
     → (logFault (cutShort k log r) ≡ 0)
     × (readingOf (cutShort k log r) ≡ cond (eqb k recordLong) (andRecord (readingOf log) r) (andRest (readingOf log) (max k (tornRest log))))
 
--- 5. After the cut: an append is taken or refused as if the cut had not happened, and leaves the card as if it had not.
-abbrev pub AfterTheCut : Type 0
-AfterTheCut =
-    (log : List ℕ) (r next : Record) (k : ℕ) → k < recordLong
-    → (newFault (cutShort k log r) next ≡ newFault log next) × (appended (cutShort k log r) next ≡ appended log next)
+-- 5. After the cut: the card is refused for the same records, an append is taken or refused as if the cut had not happened, and leaves the card as
+-- if it had not.
+pub record AsIfNever (log card : List ℕ) : Type 0 where
+  pub old : logFault card ≡ logFault log
+  pub new : (r : Record) → newFault card r ≡ newFault log r
+  pub bytes : (r : Record) → appended card r ≡ appended log r
 
--- 6. Nothing on refusal: a refused append leaves every lent byte, and so does a refused read in each of its lists.
+abbrev pub AfterTheCut : Type 0
+AfterTheCut = (log : List ℕ) (r : Record) (k : ℕ) → k < recordLong → AsIfNever log (cutShort k log r)
+
+-- 6. Nothing on refusal: a refused append leaves every lent byte, and a refused read its three lists and the place of the rest's length.
+pub record Untouched (log numbers bits cuts : List ℕ) (torn : ℕ) : Type 0 where
+  pub number : readInto (readFault log numbers bits cuts) (numbersOf log) numbers ≡ numbers
+  pub pattern : readInto (readFault log numbers bits cuts) (patternsOf log) bits ≡ bits
+  pub cut : readInto (readFault log numbers bits cuts) (cutsOf log) cuts ≡ cuts
+  pub rest : lentAfter (readFault log numbers bits cuts) (tornRest log) torn ≡ torn
+
 abbrev pub NothingOnRefusal : Type 0
 NothingOnRefusal =
     ((lent : List ℕ) (used : ℕ) (r : Record) → (appendFault lent used r ≡ 0 → ⊥) → lentAfterAppend lent used r ≡ lent)
-    × ((fault : ℕ) (new old : List ℕ) → (fault ≡ 0 → ⊥) → readInto fault new old ≡ old)
+    × ((log numbers bits cuts : List ℕ) (torn : ℕ) → (readFault log numbers bits cuts ≡ 0 → ⊥) → Untouched log numbers bits cuts torn)
 
 -- 7. The end of a log will do: without its first j records, of which it has more, an accepted log is accepted; an append behind it is taken or
 -- refused as behind the whole log, and leaves the same bytes.
@@ -140,14 +151,14 @@ CardsLife =
     (log : List ℕ) (ts : List Try) → logFault log ≡ 0 → AllTaken log ts
     → (logFault (cardAfter log ts) ≡ 0) × (readingOf (cardAfter log ts) ≡ readAll (readingOf log) ts)
 
--- 10. What scan accepts: every record has the mark, numbers rise strictly, and each cut is 0 or 1.
+-- 10. What scan accepts, and all that it accepts: every record has the mark, numbers rise strictly, and each cut is 0 or 1.
 pub record InOrder (log : List ℕ) : Type 0 where
   pub marks : (k : ℕ) → k < wholeRecords log → hasMark (recordIn log k) ≡ true
   pub rise : (k : ℕ) → suc k < wholeRecords log → getD (numbersOf log) k 0 < getD (numbersOf log) (suc k) 0
   pub cut-or-none : (k : ℕ) → k < wholeRecords log → getD (cutsOf log) k 0 ≤ 1
 
 abbrev pub ScanAccepts : Type 0
-ScanAccepts = (log : List ℕ) → logFault log ≡ 0 → InOrder log
+ScanAccepts = (log : List ℕ) → (logFault log ≡ 0 → InOrder log) × (InOrder log → logFault log ≡ 0)
 
 -- 11. Where the reader puts it: record k's number is numbers[k], its patterns are bits[5 * k] to bits[5 * k + 4], and its cut is cuts[k].
 pub record Placed (log : List ℕ) (k : ℕ) : Type 0 where

@@ -7,8 +7,8 @@ use native.Mathlib.Nat.{pow-succ'}
 use native.Mathlib.Omega.{arith}
 use borrow.Author.Tests.{le-leb, leb-true}
 use lib.Dec.{T}
-use lib.Ieee.{Float, nan, fits, binary64, toBits, ofBits}
-use lib.Ieee.Bits.{ofBits-toBits, toBits-lt}
+use lib.Ieee.{Float, nan, fits, binary64, nanBits, toBits, ofBits}
+use lib.Ieee.Bits.{ofBits-toBits, toBits-ofBits, toBits-lt, nanBits-is}
 use lib.ListN.{length, take, drop, length-take, length-drop}
 use lib.Seq.{getD-take, getD-drop}
 use Rattle.octets.specs.Octets.{bytesOf, numberOf, overwritten, lies, numberAt, withNumber}
@@ -120,3 +120,14 @@ bits-below x f = toBits-lt binary64 x f
 pub float-back : (at : ℕ) (x : Float) (s : List ℕ) → T (fits binary64 x) → at + 8 ≤ length s
     → ofBits binary64 (numberAt 8 at (withNumber 8 at (toBits binary64 x) s)) ≡ x
 float-back at x s f h = ap (ofBits binary64) (number-back 8 at (toBits binary64 x) s h (bits-below x f)) ∙ ofBits-toBits binary64 x f
+
+-- bits that were read there are put back there, if they are no NaN's: a NaN's become the one pattern
+pub bits-back : (b : ℕ) → b < 256 ^ 8 → nanBits binary64 b ≡ false → toBits binary64 (ofBits binary64 b) ≡ b
+bits-back b h e = toBits-ofBits binary64 b h (rw (sym (nanBits-is binary64 b) ∙ e) tt)
+
+pub float-with-back : (at : ℕ) (s : List ℕ) → Bytes s → at + 8 ≤ length s → nanBits binary64 (numberAt 8 at s) ≡ false
+    → withNumber 8 at (toBits binary64 (ofBits binary64 (numberAt 8 at s))) s ≡ s
+float-with-back at s b h e =
+    let long : length (take 8 (drop at s)) ≡ 8 = omega (arith, length-take 8 (drop at s), length-drop at s) in
+    let small : numberOf (take 8 (drop at s)) < 256 ^ 8 = rw long at (number-below (take 8 (drop at s)) (part-bytes 8 at s b h)) in
+    ap (λ (x : ℕ). withNumber 8 at x s) (bits-back (numberAt 8 at s) (rw (number-here 8 at s h) small) e) ∙ with-back 8 at s b h

@@ -1,15 +1,35 @@
 -- `brinepulley::card::brine_log_append` meets its contract: the record lies within the lent bytes, so an i64 holds the new length. Assumes
 -- nothing.
-use mathlib.Core.Path.{ap, _∙_}
+use mathlib.Core.Path.{_≡_, ap, _∙_}
+use mathlib.Core.Bool.{Bool, true}
 use native.Mathlib.Omega.{arith}
 use borrow.Author.Needs.{needs, sfits-of}
 use mir.Facts.{toZ-ofZ}
+use lib.Dec.{T}
 use Rattle.log.specs.Records.{recordBy}
+use Rattle.log.specs.Promises.{Typed}
 use Rattle.log.proofs.Promised.{append-leaves}
 use Rattle.brinepulley.specs.Coded.{coded}
 use Rattle.brinepulley.proofs.Numbers.{codable-answer}
 use Rattle.brinepulley.proofs.card.brine_log_append.Statement.{statement}
 use Rattle.brinepulley.proofs.card.brine_log_append.Tie as tie
+
+holds : (b : Bool) → b ≡ true → T b
+holds b e = rw e tt
+
+-- what C hands over is a record of which the log's promises speak: its types hold it
+pub append-typed : (c : tie.Start)
+    → let a = c .args in Typed (recordBy (a .number) (a .inter) (a .importance) (a .backward) (a .forward) (a .threshold) (a .cut))
+append-typed c =
+    let floats = c .good .1 .1 .1 in
+    record {
+      number = c .fits .number .fits;
+      inter = holds _ (floats .0 .1);
+      importance = holds _ (floats .1 .0 .1);
+      backward = holds _ (floats .1 .1 .0 .1);
+      forward = holds _ (floats .1 .1 .1 .0 .1);
+      limit = holds _ (floats .1 .1 .1 .1 .0 .1);
+    }
 
 append-requires : tie.Need-append-requires
 append-requires c κs = search needs
