@@ -15,6 +15,10 @@
  *    9  a set of one frame with a lookahead below 5, an offset of 0 and a mode that scores
  *   10  a list that is read has another length than it must have, or holds a number that it may not hold
  *   11  the lent places hold no state
+ *   12  a record of a log does not begin with the mark
+ *   13  a cut byte is above 1
+ *   14  a frame number is not above the one before it
+ *   15  no room to write
  *
  * What is lent. A pointer is followed by its length, counted in elements. The pointer is aligned for its type. A list of
  * length 0 may be NULL. The `double *` places of single results are never NULL. A place that a function writes must not
@@ -175,6 +179,25 @@ int64_t brine_detector_step(uint64_t *numbers, size_t numbers_len, double *score
     size_t set_len, uint64_t frame, uint64_t previous_keyframe,
     const double *inter, size_t inter_len, const double *importance, size_t importance_len,
     const double *threshold, size_t threshold_len);
+
+/* ---- the log ---- */
+
+#define BRINE_RECORD_BYTES 47
+
+/* How many whole records; *torn is the length of the rest. Refusals: 12, 13, 14. */
+int64_t brine_log_scan(const uint8_t *log, size_t log_len, uint64_t *torn);
+
+/* The same, and each record: numbers[k], bits[5 * k] to bits[5 * k + 4] as they stand in the log, cuts[k]. Places past the
+ * records stay.
+ * Refusals: 12, 13, 14, then 15 where a list is short of that. */
+int64_t brine_log_read(const uint8_t *log, size_t log_len, uint32_t *numbers, size_t numbers_len,
+    uint64_t *bits, size_t bits_len, uint8_t *cuts, size_t cuts_len, uint64_t *torn);
+
+/* `used` bytes of `log` are the log so far. The record goes behind its last whole record, over a torn rest. Returns the new
+ * used length. Bytes past the new record stay.
+ * Refusals: 15 where used is above log_len; 12, 13, 14 of the old records; 13 (cut above 1) and 14 of the new one; 15. */
+int64_t brine_log_append(uint8_t *log, size_t log_len, size_t used, uint32_t number,
+    double inter, double importance, double backward, double forward, double threshold, uint32_t cut);
 
 #ifdef __cplusplus
 }
