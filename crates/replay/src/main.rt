@@ -3,6 +3,7 @@
 mod calls;
 mod desk;
 mod float;
+mod logs;
 mod memory;
 mod parts;
 mod planes;
