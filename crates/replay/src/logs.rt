@@ -90,26 +90,37 @@ fn lists(
 }
 
 // A call over the lists that it is given or lent.
-fn replay_in(
-    letter: u8,
-    desk: &[u64],
-    log: &mut [u8],
-    numbers: &mut [u32],
-    bits: &mut [u64],
-    cuts: &mut [u8],
-) -> bool {
-    lists(desk, log, numbers, bits, cuts, true);
-    let mut torn = desk::stands(desk, memory::TORN, 0, true);
-    let answer = call(letter, desk, log, numbers, bits, cuts, &mut torn);
-    lists(desk, log, numbers, bits, cuts, false)
-        & memory::is_due(desk, answer)
-        & (torn == desk::stands(desk, memory::TORN, 0, false))
-}
-
 pub fn replay(letter: u8, desk: &[u64]) -> bool {
     let mut log = [0u8; BYTES];
     let mut cuts = [0u8; BYTES];
     let mut numbers = [0u32; NUMBERS];
     let mut bits = [0u64; BITS];
-    replay_in(letter, desk, &mut log[..], &mut numbers[..], &mut bits[..], &mut cuts[..])
+    lists(
+        desk,
+        &mut log[..],
+        &mut numbers[..],
+        &mut bits[..],
+        &mut cuts[..],
+        true,
+    );
+    let mut torn = desk::stands(desk, memory::TORN, 0, true);
+    let answer = call(
+        letter,
+        desk,
+        &mut log[..],
+        &mut numbers[..],
+        &mut bits[..],
+        &mut cuts[..],
+        &mut torn,
+    );
+    lists(
+        desk,
+        &mut log[..],
+        &mut numbers[..],
+        &mut bits[..],
+        &mut cuts[..],
+        false,
+    )
+        & memory::is_due(desk, answer)
+        & (torn == desk::stands(desk, memory::TORN, 0, false))
 }
