@@ -17,6 +17,8 @@ const CALLS: u64 = 2_000;
 /// How often a log is drawn, and the most records that it has.
 const LOGS: u64 = 40;
 const LOG_MOST: u64 = 12;
+/// How many recorders append to a log of their own.
+const RECORDERS: u64 = 5;
 
 fn sides(r: &mut Random) -> (u64, u64) {
     if r.once_in(2) {
@@ -182,5 +184,7 @@ fn logs(desk: &mut Desk, r: &mut Random) {
         log_cases::read(desk, r, LOG_MOST);
         log_cases::append(desk, r, LOG_MOST);
     }
-    log_cases::recorder(desk, r);
+    for _ in 0..RECORDERS {
+        log_cases::recorder(desk, r);
+    }
 }
