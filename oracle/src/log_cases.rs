@@ -38,7 +38,7 @@ pub fn bytes(mark: [u8; 2], number: u32, bits: [u64; 5], cut: u8) -> Vec<u8> {
 /// Records whose numbers rise, so many at most: none is above the largest.
 fn records(r: &mut Random, most: u64) -> Vec<u8> {
     let any = r.below(1 << 32);
-    let mut number = r.of(&[0, 0, 1, 250, 65_530, (1 << 24) - 3, LARGEST + 1 - most, any]);
+    let mut number = r.of(&[0, 0, 1, 250, 65_530, (1 << 24) - 3, (1 << 31) - 2, LARGEST + 1 - most, any]);
     let step = r.of(&[1, 1, 300, 1 << 27]);
     let mut log = Vec::new();
     for _ in 0..most {
@@ -179,7 +179,7 @@ pub fn append(desk: &mut Desk, r: &mut Random, most: u64) {
     let (used, at) = (log.len(), log.len() / RECORD * RECORD);
     let last = log[..at].chunks(RECORD).next_back().map_or(0, |b| u32::from_le_bytes([b[2], b[3], b[4], b[5]]));
     let (enough, more) = (at + RECORD, r.below(60) as usize);
-    let len = r.of(&[enough, enough, enough + more, enough - 1, used]);
+    let len = r.of(&[enough, enough, enough, enough + more, enough + more, enough - 1, used]);
     log.resize(len.max(used), BYTE);
     let used = match r.below(16) {
         0 => r.of(&[log.len() as u64 + 1, u64::MAX, 1 << 63, u64::MAX - 46, 1 << 32]),

@@ -43,8 +43,9 @@ fn reads(desk: &mut Desk) {
     read(desk, &[], Ok(0));
     read(desk, &[0xff; 46], Ok(0));
     read(desk, &numbered(&[0]), Ok(1));
-    // By its low byte alone the second number would fall, by its high byte alone the first two would be equal.
-    read(desk, &numbered(&[255, 256, u32::MAX]), Ok(3));
+    // By its low byte alone the second number would fall, by its high byte alone it would be equal; with a sign the fourth
+    // would fall.
+    read(desk, &numbered(&[255, 256, (1 << 31) - 1, 1 << 31, u32::MAX]), Ok(5));
     read(desk, &[numbered(&[7]), record(7)[..46].to_vec()].concat(), Ok(1));
     for wrong in [[7, 7], [7, 6], [256, 255], [u32::MAX, 0]] {
         read(desk, &numbered(&wrong), Err(14));
@@ -89,6 +90,14 @@ fn appends(desk: &mut Desk) {
     append(desk, &room(&wrong, 47), 95, 8, 2, Err(15));
     append(desk, &room(&wrong, 47), u64::MAX, 8, 0, Err(15));
     append(desk, &room(&numbered(&[7, 7]), 47), 94, 8, 2, Err(14));
+}
+
+/// More records than 16 bits count, and one more behind them.
+pub fn large(desk: &mut Desk) {
+    let log: Vec<u8> = (0..70_000).flat_map(record).collect();
+    read(desk, &log, Ok(70_000));
+    let used = log.len() as u64;
+    append(desk, &[log, vec![0; 47]].concat(), used, 70_000, 0, Ok(used + 47));
 }
 
 pub fn all(desk: &mut Desk) {

@@ -74,6 +74,7 @@ fn main() {
 /// The logs come last: the cases above are the same with them and without.
 fn logs(desk: &mut Desk, r: &mut Random, count: u64) {
     log_edges::all(desk);
+    log_edges::large(desk);
     for _ in 0..count {
         log_cases::read(desk, r, LOG_MOST);
         log_cases::append(desk, r, LOG_MOST);
