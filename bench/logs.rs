@@ -49,7 +49,8 @@ fn append() {
     let mut once = || seen(log_append(black_box(&mut end), RECORD + 20, 1, black_box([1.5, 2.5, 3.5, 4.5, 5.5]), 1));
     let mut times: Vec<f64> = (0..ROUNDS).map(|_| time(CALLS, &mut once)).collect();
     times.sort_by(f64::total_cmp);
-    println!("\nAppend behind one whole record and a rest of 20 bytes: {:.1} ns, the median of {ROUNDS} rounds of {CALLS} calls", times[ROUNDS / 2]);
+    let median = times[ROUNDS / 2];
+    println!("\nAppend behind one whole record and a rest: {median:.1} ns, the median of {ROUNDS} rounds of {CALLS} calls");
 }
 
 pub fn all() {

@@ -205,7 +205,9 @@ pub fn recorder(desk: &mut Desk, r: &mut Random) {
     let mut log = vec![BYTE; (r.from_to(0, 6) * 47 + r.below(47)) as usize];
     let (mut used, mut last) = (0, r.of(&[0, 1, 65_535, u32::MAX - 3]));
     for _ in 0..r.from_to(1, 8) {
-        let (after, due) = append_of(desk, &log, used as u64, &new(r, last));
+        let new = new(r, last);
+        let (after, due) = append_of(desk, &log, used as u64, &new);
+        append_to_end(desk, &log, used, &new, &after);
         let Ok(end) = due else { continue };
         let start = end as usize - RECORD;
         let reached = start + if r.once_in(2) { RECORD } else { r.below(47) as usize };
@@ -213,7 +215,16 @@ pub fn recorder(desk: &mut Desk, r: &mut Random) {
         // A longer rest from before stays behind a shorter one.
         used = used.max(reached);
         let count = used / RECORD;
-        last = if count == 0 { last } else { u32::from_le_bytes(log[count * RECORD - 45..][..4].try_into().unwrap()) };
+        last = if reached == end as usize { new.number } else { last };
         read_of(desk, &log[..used], [count, 5 * count, count]);
+    }
+}
+
+/// The same append where just the end of a sound log is lent, from its last whole record on: the same bytes are due.
+fn append_to_end(desk: &mut Desk, log: &[u8], used: usize, new: &Record, after: &[u8]) {
+    let from = (used / RECORD).saturating_sub(1) * RECORD;
+    let (end, _) = append_of(desk, &log[from..], (used - from) as u64, new);
+    if end != after[from..] {
+        desk.tally.differs("an append to the end of a log, and to the whole of it");
     }
 }
