@@ -37,6 +37,19 @@ or-none f g e = by-case (eqb f 0) f g (eqb-true f 0) (eqb-false f 0) e
     by-case true f g is isn't e = (is refl, e)
     by-case false f g is isn't e = absurd (isn't refl e)
 
+-- and where neither refuses, nothing is refused
+pub or-both : (f g : ℕ) → f ≡ 0 → g ≡ 0 → f orElse g ≡ 0
+or-both f g e d = sym (or-later 0 f g (sym e) (sym d))
+
+-- refusals may be grouped
+pub or-group : (f g h : ℕ) → (f orElse g) orElse h ≡ f orElse (g orElse h)
+unfolding _orElse_
+or-group f g h = by-case (eqb f 0) refl
+  where
+    by-case : (b : Bool) → eqb f 0 ≡ b → cond (eqb (cond b g f) 0) h (cond b g f) ≡ cond b (cond (eqb g 0) h g) f
+    by-case true e = refl
+    by-case false e = rw e
+
 -- a refusal that is not given: its test fails
 pub passed : (k : ℕ) (test : Bool) → refusal (suc k) test ≡ 0 → test ≡ false
 passed k true e = absurd (suc-ne-zero k e)

@@ -30,6 +30,12 @@ use Rattle.brinepulley.proofs.brine_detector_fresh.Kinds as detector-fr
 use Rattle.brinepulley.proofs.brine_detector_fresh.Reads as detector-fresh-reads
 use Rattle.brinepulley.proofs.brine_detector_step.Kinds as detector-step-kinds
 use Rattle.brinepulley.proofs.brine_detector_step.Reads as detector-step-reads
+use Rattle.brinepulley.proofs.card.brine_log_scan.Kinds as log-scan-kinds
+use Rattle.brinepulley.proofs.card.brine_log_scan.Reads as log-scan-reads
+use Rattle.brinepulley.proofs.card.brine_log_read.Kinds as log-read-kinds
+use Rattle.brinepulley.proofs.card.brine_log_read.Reads as log-read-reads
+use Rattle.brinepulley.proofs.card.brine_log_append.Kinds as log-append-kinds
+use Rattle.brinepulley.proofs.card.brine_log_append.Reads as log-append-reads
 
 -- two outcomes that are both the number c and the place's content x
 same : {A : Type 0} {c : ℤ} {x : A} (r r′ : ℤ) (y y′ : A) → (r ≡ c) × (y ≡ x) → (r′ ≡ c) × (y′ ≡ x) → _≡_ {A = ℤ × A} (r, y) (r′, y′)
@@ -66,6 +72,12 @@ hadamard4x4-unique κs a r r′ e e′ p q = same r r′ (now (e .0)) (now (e′
 pub hadamard8x8-unique : OneOutcome 1 hadamard8x8-kinds.ps hadamard8x8-kinds.r (ℤ × List ℤ) (λ κs r e. (r, now (e .0))) hadamard8x8-reads.Post
 hadamard8x8-unique κs a r r′ e e′ p q = same r r′ (now (e .0)) (now (e′ .0)) p q
 
+pub log-scan-unique : OneOutcome 2 log-scan-kinds.ps log-scan-kinds.r (ℤ × ℕ) (λ κs r e. (r, now (e .1 .0))) log-scan-reads.Post
+log-scan-unique κs a r r′ e e′ p q = same r r′ (now (e .1 .0)) (now (e′ .1 .0)) p q
+
+pub log-append-unique : OneOutcome 1 log-append-kinds.ps log-append-kinds.r (ℤ × List ℕ) (λ κs r e. (r, now (e .0))) log-append-reads.Post
+log-append-unique κs a r r′ e e′ p q = same r r′ (now (e .0)) (now (e′ .0)) p q
+
 -- ---- two lent places are written
 
 both : {A B : Type 0} {c : ℤ} {x : A} {y : B} (r r′ : ℤ) (a a′ : A) (b b′ : B)
@@ -84,3 +96,14 @@ detector-fresh-unique κs a r r′ e e′ p q = both r r′ (now (e .1 .1 .1 .1 
 
 pub detector-step-unique : OneOutcome 5 detector-step-kinds.ps detector-step-kinds.r (ℤ × List ℕ × List Float) (λ κs r e. (r, now (e .0), now (e .1 .0))) detector-step-reads.Post
 detector-step-unique κs a r r′ e e′ p q = both r r′ (now (e .0)) (now (e′ .0)) (now (e .1 .0)) (now (e′ .1 .0)) p q
+
+-- ---- four lent places are written
+
+pub log-read-unique : OneOutcome 5 log-read-kinds.ps log-read-kinds.r (ℤ × List ℕ × List ℕ × List ℕ × ℕ) (λ κs r e. (r, now (e .1 .0), now (e .1 .1 .0), now (e .1 .1 .1 .0), now (e .1 .1 .1 .1 .0))) log-read-reads.Post
+log-read-unique κs a r r′ e e′ p q =
+    let answers : r ≡ r′ = p .0 ∙ sym (q .0) in
+    let numbers : now (e .1 .0) ≡ now (e′ .1 .0) = p .1 .0 ∙ sym (q .1 .0) in
+    let bits : now (e .1 .1 .0) ≡ now (e′ .1 .1 .0) = p .1 .1 .0 ∙ sym (q .1 .1 .0) in
+    let cuts : now (e .1 .1 .1 .0) ≡ now (e′ .1 .1 .1 .0) = p .1 .1 .1 .0 ∙ sym (q .1 .1 .1 .0) in
+    let torn : now (e .1 .1 .1 .1 .0) ≡ now (e′ .1 .1 .1 .1 .0) = p .1 .1 .1 .1 ∙ sym (q .1 .1 .1 .1) in
+    rw (answers, numbers, bits, cuts, torn)

@@ -15,6 +15,7 @@ ghost use Rattle.brinepulley.specs.Coded.{coded, done, status, heldAfter
 use plane::Plane;
 use settings::Settings;
 
+pub mod card;
 mod code;
 
 // The factor that Fast mode scales a frame by, 1 for none.

@@ -4,9 +4,10 @@ use crate::desk;
 use crate::desk::half;
 use crate::desk::len;
 use crate::desk::word;
-use crate::float;
 use crate::memory;
 use crate::parts;
+use brinepulley::card;
+use octets::float;
 
 // Room for a log or cuts, for numbers, for bits.
 const BYTES: usize = 8704;
@@ -17,7 +18,7 @@ const BITS: usize = 495;
 
 // The length of the log.
 fn scan(desk: &[u64], log: &[u8], torn: &mut u64) -> i64 {
-    brinepulley::brine_log_scan(parts::samples(log, 0, len(desk, 1)), torn)
+    card::brine_log_scan(parts::samples(log, 0, len(desk, 1)), torn)
 }
 
 // The length of the log, and how many numbers, bits and cuts are lent.
@@ -29,7 +30,7 @@ fn read(
     cuts: &mut [u8],
     torn: &mut u64,
 ) -> i64 {
-    brinepulley::brine_log_read(
+    card::brine_log_read(
         parts::samples(log, 0, len(desk, 1)),
         parts::room(numbers, 0, len(desk, 2)),
         parts::numbers(bits, 0, len(desk, 3)),
@@ -45,7 +46,7 @@ fn real(desk: &[u64], i: usize) -> f64 {
 
 // The length of the log, how much of it is used; number, the five floats of a score, and the cut.
 fn append(desk: &[u64], log: &mut [u8]) -> i64 {
-    brinepulley::brine_log_append(
+    card::brine_log_append(
         parts::work(log, 0, len(desk, 1)),
         len(desk, 2),
         half(desk, 3),

@@ -2,7 +2,6 @@
 // what it answers and writes is compared. A list that was changed, cut short or is no list fails too.
 mod calls;
 mod desk;
-mod float;
 mod logs;
 mod memory;
 mod parts;

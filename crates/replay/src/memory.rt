@@ -1,7 +1,7 @@
 // The memory that the list edits: one word for each place that is given or lent. What is lent is filled from the memory before
 // the call, and compared with what is due after it.
 use crate::desk;
-use crate::float;
+use octets::float;
 
 // Where each kind begins, and the end. The answer that is due and the numbers that are given come first.
 pub const STATE: usize = 16;

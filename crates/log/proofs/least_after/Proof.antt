@@ -1,0 +1,52 @@
+-- `log::least_after` meets its contract: behind a record, one more than its number. Assumes nothing.
+use mathlib.Core.Path.{_∙_, ap}
+use Prim.Native.Nat.{ℕ, suc, _+_, _*_, _-_}
+use native.Mathlib.Numerals.{add-one}
+use native.Mathlib.Omega.{arith}
+use borrow.Author.Needs.{needs}
+use Rattle.octets.proofs.Laws.{number-here}
+use Rattle.log.specs.Records.{recordLong}
+use Rattle.log.proofs.Places.{least-first, least-next}
+use Rattle.log.proofs.least_after.Statement.{statement}
+use Rattle.log.proofs.least_after.Tie as tie
+
+-- src/lib.rt:48:9
+returns : tie.Need-returns
+returns c = least-first (c .before .before .args .log .now) (c .before .before .args .k) (c .if1 .taken)
+
+-- src/lib.rt:50:15
+sub-at : tie.Need-sub-at
+sub-at c = search needs
+
+-- src/lib.rt:50:14
+mul-at : tie.Need-mul-at
+mul-at c = search needs
+
+-- src/lib.rt:50:14
+add-at : tie.Need-add-at
+add-at c = search needs
+
+-- src/lib.rt:51:9
+u32-at-requires : tie.Need-u32-at-requires
+u32-at-requires c κs = search needs
+
+-- src/lib.rt:52:5
+cast-result : tie.Need-cast-result
+cast-result c = search needs
+
+-- src/lib.rt:52:5
+add-result : tie.Need-add-result
+add-result c = search needs
+
+-- src/lib.rt:43:1
+returns-2 : tie.Need-returns-2
+returns-2 c =
+    let a = c .before .before .before .args in
+    let log = a .log .now in
+    let at = (a .k - 1) * recordLong + 2 in
+    rw (add-one (c .u32-at .result)) (ap suc (c .u32-at .ensures ∙ number-here 4 at log (omega arith)) ∙ least-next log (a .k) (c .before .if1 .left))
+
+pub least-after-spec : {M : Type 1} → statement M
+least-after-spec =
+    tie.close
+    (tie.spec returns sub-at mul-at add-at u32-at-requires cast-result add-result returns-2)

@@ -1,0 +1,5 @@
+pub mod Over
+pub mod Laws
+pub mod Steps
+pub mod Patterns
+pub mod Unique
