@@ -46,7 +46,8 @@ fn append() {
     const ROUNDS: usize = 1001;
     const CALLS: u32 = 1000;
     let mut end = [log(1), vec![0; RECORD]].concat();
-    let mut once = || seen(log_append(black_box(&mut end), RECORD + 20, 1, black_box([1.5, 2.5, 3.5, 4.5, 5.5]), 1));
+    let mut append = || log_append(black_box(&mut end), RECORD + 20, 1, black_box([1.5, 2.5, 3.5, 4.5, 5.5]), 1);
+    let mut once = || assert_eq!(append(), 2 * RECORD as i64);
     let mut times: Vec<f64> = (0..ROUNDS).map(|_| time(CALLS, &mut once)).collect();
     times.sort_by(f64::total_cmp);
     let median = times[ROUNDS / 2];
