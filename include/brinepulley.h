@@ -15,15 +15,15 @@
  *    9  a set of one frame with a lookahead below 5, an offset of 0 and a mode that scores
  *   10  a list that is read has another length than it must have, or holds a number that it may not hold
  *   11  the lent places hold no state
- *   12  a record of a log does not begin with the mark
- *   13  a cut byte is above 1
- *   14  a frame number is not above the one before it
+ *   12  a record of a log does not begin with its mark
+ *   13  the cut of a record is above 1
+ *   14  the number of a record is not above that of the record before it
  *   15  no room to write
  *
  * What is lent. A pointer is followed by its length, counted in elements. The pointer is aligned for its type. A list of
- * length 0 may be NULL. The `double *` places of single results are never NULL. A place that a function writes must not
- * overlap any other place that is lent to the same call; places that are only read may overlap. A function keeps no pointer
- * after it returns, and there is no hidden state: calls on different places may run in several threads.
+ * length 0 may be NULL. The places of single results, the `double *` ones and `torn`, are never NULL. A place that a function
+ * writes must not overlap any other place that is lent to the same call; places that are only read may overlap. A function
+ * keeps no pointer after it returns, and there is no hidden state: calls on different places may run in several threads.
  *
  * A plane is a pointer to 8 bit samples, their number, then width, height, stride and origin: sample (x, y) is
  * samples[origin + y * stride + x]. Samples outside the plane's width and height are never read or written. Where a function
@@ -182,20 +182,37 @@ int64_t brine_detector_step(uint64_t *numbers, size_t numbers_len, double *score
 
 /* ---- the log ---- */
 
+/* A log keeps scores through power cuts. It is whole records of BRINE_RECORD_BYTES bytes, one behind the other, and then a
+ * torn rest of fewer bytes, mostly none: what a power cut left of an append. The rest is never tested, and the next append
+ * goes over it. An empty log is a log. docs/FORMATS.md has the bytes, and what to do after a power cut.
+ *
+ * A record is the mark 53 43 (hex), a frame number in four bytes, the BRINE_SCORE_DOUBLES doubles of a score in eight bytes
+ * each, in the order of enum brine_double, all low byte first, and one byte, 1 for a cut and 0 for none. Numbers rise from
+ * record to record; they may start at 0 and leave some out.
+ *
+ * The end of a log, from any whole record on, is a log too. So a recorder may lend just the last whole record of its file and
+ * the rest behind it: the append then gives the same bytes, and costs the same however long the log is. The lent places of
+ * one call, `torn` among them, must not overlap. */
 #define BRINE_RECORD_BYTES 47
 
-/* How many whole records; *torn is the length of the rest. Refusals: 12, 13, 14. */
+/* How many whole records the log has. Returns their number, and the length of the torn rest is in *torn.
+ * Refusals: 12, 13, 14 of each record, the earliest record at fault first. Then *torn is as it was. */
 int64_t brine_log_scan(const uint8_t *log, size_t log_len, uint64_t *torn);
 
-/* The same, and each record: numbers[k], bits[5 * k] to bits[5 * k + 4] as they stand in the log, cuts[k]. Places past the
- * records stay.
- * Refusals: 12, 13, 14, then 15 where a list is short of that. */
+/* The records of a log. Returns their number, and the length of the torn rest is in *torn. Of record k the frame number is in
+ * numbers[k], the score in bits[5 * k] to bits[5 * k + 4], the cut in cuts[k]. A score comes as bit patterns, as they stand
+ * in the log, those of a NaN too. Places past the records stay.
+ * Refusals: 12, 13, 14 of each record, the earliest record at fault first; 15, where `numbers` or `cuts` has fewer places than
+ * there are records, or `bits` fewer than five for each. Then the three lists and *torn are as they were. */
 int64_t brine_log_read(const uint8_t *log, size_t log_len, uint32_t *numbers, size_t numbers_len,
     uint64_t *bits, size_t bits_len, uint8_t *cuts, size_t cuts_len, uint64_t *torn);
 
-/* `used` bytes of `log` are the log so far. The record goes behind its last whole record, over a torn rest. Returns the new
- * used length. Bytes past the new record stay.
- * Refusals: 15 where used is above log_len; 12, 13, 14 of the old records; 13 (cut above 1) and 14 of the new one; 15. */
+/* Appends a record. The first `used` bytes of `log` are the log so far, the others are room. The record goes behind the last
+ * whole record, over a torn rest. Every NaN is written as the one pattern 7FF8000000000000 (hex); any other double keeps its
+ * bits. Returns the used length from now on, which is the end of the new record. Bytes past it stay.
+ * Refusals: 15, where `used` is above log_len; 12, 13, 14 of each record so far, the earliest record at fault first; 13, where
+ * `cut` is above 1; 14, where there is a record and `number` is not above the last one's; 15, where the new record would end
+ * past log_len. Then the log is as it was. */
 int64_t brine_log_append(uint8_t *log, size_t log_len, size_t used, uint32_t number,
     double inter, double importance, double backward, double forward, double threshold, uint32_t cut);
 

@@ -20,6 +20,9 @@ extern const struct test edge_tests[];
 extern const struct test fresh_tests[];
 extern const struct test step_tests[];
 extern const struct test run_tests[];
+extern const struct test log_tests[];
+extern const struct test refused_tests[];
+extern const struct test torn_tests[];
 
 /* An expectation that does not hold is printed and fails the test that runs; the test goes on. */
 bool expect(bool holds, const char *text, const char *file, int line);

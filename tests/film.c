@@ -1,6 +1,7 @@
-/* Writes test films and pictures to the standard output:
+/* Writes test films, pictures and logs to the standard output:
      film y4m WIDTH HEIGHT COLOUR LUMA...   a Y4M film, one frame for each LUMA; COLOUR - leaves its word out
      film pgm WIDTH HEIGHT LARGEST LUMA     a binary PGM picture
+     film log NUMBER...                     a log, one record for each NUMBER, with a score of zeros and no cut
    LUMA is a number, or two as 16/17 for columns by turns. */
 #include <stdio.h>
 #include <stdlib.h>
@@ -40,8 +41,24 @@ static void put_film(size_t width, size_t height, const char *colour, int frames
     }
 }
 
+static void put_log(int records, char **numbers)
+{
+    for (int i = 0; i < records; i++) {
+        const unsigned long number = strtoul(numbers[i], NULL, 10);
+        printf("SC");
+        for (int k = 0; k < 4; k++)
+            putchar((int)(number >> 8 * k & 255));
+        for (int k = 0; k < 5 * 8 + 1; k++)
+            putchar(0);
+    }
+}
+
 int main(int count, char **words)
 {
+    if (count >= 2 && strcmp(words[1], "log") == 0) {
+        put_log(count - 2, words + 2);
+        return ferror(stdout) ? 2 : 0;
+    }
     if (count < 5)
         return 2;
     const size_t width = strtoul(words[2], NULL, 10), height = strtoul(words[3], NULL, 10);

@@ -5,6 +5,7 @@
 #include "say.h"
 
 enum status command_decide(int count, char **words);
+enum status command_log(int count, char **words);
 enum status command_measure(int count, char **words);
 enum status command_demo(int count, char **words);
 

@@ -18,11 +18,12 @@ struct story {
     size_t count;
 };
 
-static void story_take(void *taker, const struct verdict *verdict)
+static enum status story_take(void *taker, const struct verdict *verdict)
 {
     struct story *story = taker;
     if (story->count < FILM_FRAMES)
         story->verdicts[story->count++] = *verdict;
+    return DONE;
 }
 
 /* One row of a picture in letters, by the mean of the samples under each. */
@@ -98,7 +99,7 @@ static void add_chart(struct page *page, const struct story *story)
             add_bar(page, verdict);
         else
             page_add(page, "  %5" PRIu64 "  %-*s         %-6s %8" PRIu64 "\n", verdict->frame, BAR_WIDTH,
-                     verdict->frame == 0 ? "the first frame begins the first scene" : "too near the film's end to tell",
+                     verdict->first ? "the first frame begins the first scene" : "too near the film's end to tell",
                      verdict->cut ? "first" : "no cut", verdict->release);
     }
 }

@@ -92,25 +92,25 @@ static enum status step(struct driver *driver, const struct film *film, uint64_t
 }
 
 /* The first frame begins a scene; then one step for each frame that has one before it. */
-static enum status decide_all(struct driver *driver, struct gauge *gauge, verdict_taker *take, void *taker)
+static enum status decide_all(struct driver *driver, struct gauge *gauge, uint64_t first, verdict_taker *take, void *taker)
 {
-    uint64_t previous = 0;
-    const struct verdict first = {.cut = true};
+    uint64_t previous = first;
+    const struct verdict opening = {.frame = first, .first = true, .cut = true};
+    enum status status = take(taker, &opening);
 
-    take(taker, &first);
-    for (uint64_t frame = 1;; frame++) {
+    for (uint64_t frame = first + 1; status == DONE; frame++) {
         struct verdict verdict = {.frame = frame};
-        enum status status = fill(driver, gauge);
+        status = fill(driver, gauge);
         if (status != DONE || driver->pairs == 0)
             return status;
         status = step(driver, gauge->film, previous, &verdict);
-        if (status != DONE)
-            return status;
-        take(taker, &verdict);
+        if (status == DONE)
+            status = take(taker, &verdict);
         if (verdict.cut)
             previous = frame;
         advance(driver);
     }
+    return status;
 }
 
 enum status drive(struct film *film, struct costs *costs, const struct settings *settings, verdict_taker *take,
@@ -124,7 +124,7 @@ enum status drive(struct film *film, struct costs *costs, const struct settings 
         return status;
     status = gauge_start(&gauge, film, costs, settings->mode);
     if (status == DONE)
-        status = decide_all(&driver, &gauge, take, taker);
+        status = decide_all(&driver, &gauge, settings->first, take, taker);
     gauge_free(&gauge);
     return status;
 }

@@ -10,20 +10,24 @@ struct settings {
     size_t lookahead;
     uint64_t min;
     uint64_t max;
+    uint64_t first; /* the number of the film's first frame */
 };
 
 /* What was decided on one frame. */
 struct verdict {
     uint64_t frame;
+    bool first;  /* the film's first frame, on which nothing is decided */
     bool cut;    /* a scene begins here; the first frame always begins one */
     bool scored; /* whether there is a score */
     double score[BRINE_SCORE_DOUBLES];
     uint64_t release; /* frames numbered below may be purged */
 };
 
-typedef void verdict_taker(void *taker, const struct verdict *verdict);
+/* Takes a verdict. Any status but DONE stops the drive. */
+typedef enum status verdict_taker(void *taker, const struct verdict *verdict);
 
-/* Decides on every frame of the film and hands each verdict on, in order. */
+/* Decides on every frame of the film and hands each verdict on, in order, before the next frame is decided on. The first
+   frame's verdict comes once the frame is there and the settings are accepted. */
 enum status drive(struct film *film, struct costs *costs, const struct settings *settings, verdict_taker *take,
                   void *taker);
 

@@ -11,7 +11,8 @@ static const char help[] =
     "brinepulley: where a scene of a film begins\n"
     "\n"
     "  brinepulley decide FILM.y4m [--mode fast|standard|none] [--lookahead N]\n"
-    "                     [--min N] [--max N] [--inter FILE] [--csv]\n"
+    "                     [--min N] [--max N] [--inter FILE] [--log FILE]\n"
+    "                     [--first N] [--csv]\n"
     "      Decides on each frame of a Y4M film of 8 bits; '-' reads the standard\n"
     "      input. A line per frame: number, cut or not, the score's five numbers,\n"
     "      and the release number: frames numbered below it may be purged.\n"
@@ -23,7 +24,14 @@ static const char help[] =
     "        --max        always a cut at a distance of N (default 4294967295)\n"
     "        --inter      the inter costs of standard mode, one number per line,\n"
     "                     that of frames 0 and 1 first\n"
+    "        --log        appends each score to a log, on the card before the next\n"
+    "                     frame is decided on; the file is made if it is missing\n"
+    "        --first      the number of the film's first frame (default 0)\n"
     "        --csv        for machines: commas, every digit, nothing else\n"
+    "\n"
+    "  brinepulley log FILE [--csv]\n"
+    "      The records of a log; '-' reads the standard input. The length of a torn\n"
+    "      rest, which a power cut leaves, goes to the standard error.\n"
     "\n"
     "  brinepulley measure A.pgm B.pgm\n"
     "      Difference, delta and importance of two binary PGM pictures of 8 bits,\n"
@@ -35,8 +43,8 @@ static const char help[] =
     "  brinepulley --help, --version\n"
     "\n"
     "Exit status: 0 done; 1 refused, with the refusal's number (docs/RULES.md says\n"
-    "more); 2 a wrong command line, or a file that cannot be read. In the cases 1\n"
-    "and 2 nothing is written to the standard output.\n";
+    "more); 2 a wrong command line, or a file that cannot be read or written. In the\n"
+    "cases 1 and 2 nothing is written to the standard output.\n";
 
 static enum status write_text(const char *text)
 {
@@ -58,7 +66,7 @@ static bool asks_help(int count, char **words)
 int main(int count, char **words)
 {
     if (count < 2)
-        return say_usage("which command: decide, measure or demo?");
+        return say_usage("which command: decide, log, measure or demo?");
     const char *command = words[1];
     if (asks_help(count - 1, words + 1))
         return write_text(help);
@@ -66,6 +74,8 @@ int main(int count, char **words)
         return write_text("brinepulley " BRINEPULLEY_VERSION "\n");
     if (strcmp(command, "decide") == 0)
         return command_decide(count - 2, words + 2);
+    if (strcmp(command, "log") == 0)
+        return command_log(count - 2, words + 2);
     if (strcmp(command, "measure") == 0)
         return command_measure(count - 2, words + 2);
     if (strcmp(command, "demo") == 0)

@@ -34,6 +34,12 @@ static enum status take_number(const char *name, const char *value, uint64_t *nu
     return read_number(value, number) ? DONE : say_usage("%s wants a whole number, not '%s'", name, value);
 }
 
+static enum status take_file(const char **file, const char *value)
+{
+    *file = value;
+    return DONE;
+}
+
 /* An option that has a value. */
 static enum status take_option(struct options *options, const char *name, const char *value)
 {
@@ -42,14 +48,16 @@ static enum status take_option(struct options *options, const char *name, const 
         return take_number(name, value, &options->settings.min);
     if (strcmp(name, "--max") == 0)
         return take_number(name, value, &options->settings.max);
+    if (strcmp(name, "--first") == 0)
+        return take_number(name, value, &options->settings.first);
     if (strcmp(name, "--mode") == 0)
         return read_mode(value, &options->settings.mode)
             ? DONE
             : say_usage("--mode wants fast, standard or none, not '%s'", value);
-    if (strcmp(name, "--inter") == 0) {
-        options->inter = value;
-        return DONE;
-    }
+    if (strcmp(name, "--inter") == 0)
+        return take_file(&options->inter, value);
+    if (strcmp(name, "--log") == 0)
+        return take_file(&options->log, value);
     const enum status status = take_number(name, value, &lookahead);
     if (status == DONE && (lookahead == 0 || lookahead > SIZE_MAX))
         return say_usage("--lookahead wants at least 1");
@@ -59,7 +67,7 @@ static enum status take_option(struct options *options, const char *name, const 
 
 static bool has_value(const char *word)
 {
-    static const char *const names[] = {"--mode", "--lookahead", "--min", "--max", "--inter"};
+    static const char *const names[] = {"--mode", "--lookahead", "--min", "--max", "--first", "--inter", "--log"};
     for (size_t i = 0; i < sizeof names / sizeof names[0]; i++)
         if (strcmp(word, names[i]) == 0)
             return true;
@@ -81,6 +89,11 @@ static enum status take_word(struct options *options, const char *word)
     return DONE;
 }
 
+static bool is_file(const char *file, const char *other)
+{
+    return file != NULL && other != NULL && strcmp(file, other) == 0;
+}
+
 /* What the words ask for together. */
 static enum status fits_together(const struct options *options)
 {
@@ -91,6 +104,8 @@ static enum status fits_together(const struct options *options)
         return say_usage("standard mode reads its inter costs from a file: --inter FILE");
     if (!standard && options->inter != NULL)
         return say_usage("--inter goes with --mode standard alone");
+    if (is_file(options->log, options->film) || is_file(options->log, options->inter))
+        return say_usage("--log would write over a file that is read: '%s'", options->log);
     return DONE;
 }
 

@@ -7,6 +7,7 @@
 struct options {
     const char *film;
     const char *inter;
+    const char *log; /* NULL: none */
     bool csv;
     struct settings settings;
 };

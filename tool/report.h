@@ -16,7 +16,7 @@ struct report {
 void report_start(struct report *report, bool csv);
 
 /* A verdict_taker. */
-void report_take(void *report, const struct verdict *verdict);
+enum status report_take(void *report, const struct verdict *verdict);
 
 /* Closes the report. It is written where all went well, and dropped otherwise. */
 enum status report_end(struct report *report, enum status status);

@@ -12,7 +12,7 @@
 #define TEXT_OF(number) #number
 #define TEXT(name) TEXT_OF(name)
 
-/* Document 01's words, by number, with the header's limits. There n is the frame's number, p the previous keyframe's, L the
+/* Document 01's words, by number, with the header's limits; from 12 on the log's. There n is the frame's number, p the previous keyframe's, L the
    set's length, A the lookahead offset and o the offset. */
 static const char *const refusals[] = {
     [1] = "a side is 0 or above 8,192, or stride below width",
@@ -29,6 +29,10 @@ static const char *const refusals[] = {
            "below 0 (NaN allowed); a transform entry out of range",
     [11] = "a state with settings that 5 or 6 forbid; " TEXT(BRINE_ENTRIES) " entries or more, over 10 if A = 5; o not below "
            "the count, or o not A when empty; an entry whose inter cost 10 forbids",
+    [12] = "bad mark: a record begins with 53 43 (hex)",
+    [13] = "cut byte above 1",
+    [14] = "number not rising",
+    [15] = "no room to write",
 };
 
 static void say_line(const char *format, va_list words)
@@ -61,7 +65,7 @@ enum status say_refused(const char *what, int64_t answer)
 {
     const int64_t last = (int64_t)(sizeof refusals / sizeof refusals[0]) - 1;
     const int64_t number = -answer;
-    const char *words = number >= 1 && number <= last ? refusals[number] : "a number that document 01 doesn't have";
+    const char *words = number >= 1 && number <= last ? refusals[number] : "a number that no refusal has";
 
     fprintf(stderr, "brinepulley: %s: refused, %" PRId64 ": %s\n", what, number, words);
     return REFUSED;

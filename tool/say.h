@@ -21,7 +21,7 @@ enum status say_failed(const char *format, ...) SAY_FORMAT(1, 2);
 /* The same for a wrong command line: it also says where help is. */
 enum status say_usage(const char *format, ...) SAY_FORMAT(1, 2);
 
-/* Says that the library refused, with document 01's number and words, and gives REFUSED. `answer` is the library's. */
+/* Says that the library refused, with the refusal's number and words, and gives REFUSED. `answer` is the library's. */
 enum status say_refused(const char *what, int64_t answer);
 
 /* An answer in the making. It is kept in memory, so that a film that breaks off leaves nothing half written. */

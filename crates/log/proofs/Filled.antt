@@ -1,14 +1,14 @@
 -- A list that is filled from its first place on, list behind list. Assumes nothing.
 use mathlib.Core.Path.{_≡_, refl, sym, ap, _∙_}
 use mathlib.Core.List.{List, [], _∷_, _++_}
-use Prim.Native.Nat.{ℕ, suc, _+_, _*_, _≤_, _<_}
+use Prim.Native.Nat.{ℕ, suc, _*_, _≤_, _<_}
 use native.Mathlib.Nat.{zero-add}
 use native.Mathlib.Omega.{arith}
-use lib.ListN.{length, set, length-set, length-append}
+use lib.ListN.{length, set}
 use Rattle.octets.specs.Octets.{overwritten}
 use Rattle.octets.proofs.Over.{over-none, over-long, over-join, over-one}
 use Rattle.log.specs.Log.{joined}
-use Rattle.log.proofs.LogLaws.{joined-none, joined-next, joined-long}
+use Rattle.log.proofs.Each.{joined-none, joined-next, joined-long}
 
 -- what a list holds that held `old`, and how long it is
 pub record Filled (old now new : List ℕ) : Type 0 where

@@ -1,8 +1,8 @@
+pub mod Each
+pub mod RecordLaws
 pub mod Places
-pub mod Earliest
+pub mod LogLaws
 pub mod Puts
 pub mod Filled
-pub mod RecordLaws
-pub mod LogLaws
 pub mod Promised
 pub mod Unique

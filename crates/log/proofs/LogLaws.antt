@@ -1,88 +1,23 @@
 -- Logs by their records: what depends on the first n records alone, what the reader gives at each place, what an overwritten log holds, and what its end
 -- holds. Assumes nothing.
 use mathlib.Core.Path.{_≡_, refl, sym, ap, ap₂, _∙_}
+use mathlib.Core.Bool.{Bool, true, false}
 use mathlib.Core.List.{List, [], _∷_, _++_}
 use Prim.Native.Nat.{ℕ, zero, suc, _+_, _-_, _*_, _≤_, _<_, max}
-use native.Mathlib.Decide.{ℕ-discrete}
-use native.Mathlib.Nat.{mul-le-mul-right}
 use native.Mathlib.Omega.{arith}
-use lib.ListN.{length, take, drop, getD, length-append, length-drop, List·getD-append}
-use lib.Seq.{take-take, drop-drop, getD-append-add}
-use Rattle.answer.specs.Refusal.{_orElse_}
-use Rattle.answer.proofs.Laws.{or-none, or-both}
+use borrow.Author.Tests.{leb-true, leb-false}
+use lib.Dec.{leb}
+use lib.ListN.{length, take, drop, getD, length-drop}
+use lib.Seq.{take-take, drop-drop, length-take-le}
 use Rattle.octets.specs.Octets.{overwritten}
 use Rattle.octets.proofs.Over.{over-front, over-here, over-length}
-use Rattle.log.specs.Records.{recordLong, patternCount, numberField, patternFields, cutField, bytesFault}
+use Rattle.log.specs.Records.{recordLong, patternLong, patternCount, patternsPlace, field, numberField, patternFields, cutField, bytesFault}
 use Rattle.log.specs.Log.{wholeRecords, tornRest, wholeLong, recordIn, leastAfter, recordFault, earliest, logFault, joined, numbersOf, patternsOf, cutsOf}
+use Rattle.log.proofs.Each.{joined-same, joined-next, joined-place, earliest-same, earliest-next, earliest-none, earliest-each}
+use Rattle.log.proofs.Places.{part-front}
 use Rattle.log.proofs.RecordLaws.{fault-lower}
 
--- ---- place by place
-
-pub joined-same : (n : ℕ) (g h : ℕ → List ℕ) → ((k : ℕ) → k < n → g k ≡ h k) → joined n g ≡ joined n h
-unfolding joined
-joined-same zero g h e = refl
-joined-same (suc n) g h e = ap₂ (λ (a b : List ℕ). a ++ b) (joined-same n g h (λ k l. e k (omega arith))) (e n (omega arith))
-
-pub joined-none : (g : ℕ → List ℕ) → joined 0 g ≡ []
-unfolding joined
-joined-none g = refl
-
-pub joined-next : (n : ℕ) (g : ℕ → List ℕ) → joined (suc n) g ≡ joined n g ++ g n
-unfolding joined
-joined-next n g = refl
-
--- lists of one length, one behind the other: element j of list k
-module _ (w : ℕ) (g : ℕ → List ℕ) (long : (k : ℕ) → length (g k) ≡ w) where
-  pub joined-long : (n : ℕ) → length (joined n g) ≡ n * w
-  unfolding joined
-  joined-long zero = omega arith
-  joined-long (suc n) = omega (arith, length-append (joined n g) (g n), joined-long n, long n)
-
-  pub joined-place : (n k j : ℕ) → k < n → j < w → getD (joined n g) (k * w + j) 0 ≡ getD (g k) j 0
-  unfolding joined
-  joined-place zero k j l h = absurd (omega arith)
-  joined-place (suc n) k j l h = here (joined-place n k j) (ℕ-discrete k n)
-    where
-      here : (k < n → j < w → getD (joined n g) (k * w + j) 0 ≡ getD (g k) j 0) → Dec (k ≡ n) → getD (joined n g ++ g n) (k * w + j) 0 ≡ getD (g k) j 0
-      here before (yes is) =
-          rw is (ap (λ (m : ℕ). getD (joined n g ++ g n) (m + j) 0) (sym (joined-long n)) ∙ getD-append-add (joined n g) (g n) j 0)
-      here before (no isn't) =
-          let less : k < n = omega arith in
-          List·getD-append (joined n g) (g n) 0 (k * w + j) (omega (arith, joined-long n, mul-le-mul-right w less)) ∙ before less h
-
-pub earliest-same : (n : ℕ) (f g : ℕ → ℕ) → ((k : ℕ) → k < n → f k ≡ g k) → earliest n f ≡ earliest n g
-unfolding earliest
-earliest-same zero f g e = refl
-earliest-same (suc n) f g e = ap₂ (λ (a b : ℕ). a orElse b) (earliest-same n f g (λ k l. e k (omega arith))) (e n (omega arith))
-
-pub earliest-next : (n : ℕ) (f : ℕ → ℕ) → earliest n f ≡ 0 → f n ≡ 0 → earliest (suc n) f ≡ 0
-unfolding earliest
-earliest-next n f e d = or-both (earliest n f) (f n) e d
-
--- where no place is at fault, none is the earliest
-pub earliest-none : (n : ℕ) (f : ℕ → ℕ) → ((k : ℕ) → k < n → f k ≡ 0) → earliest n f ≡ 0
-unfolding earliest
-earliest-none zero f e = refl
-earliest-none (suc n) f e = earliest-next n f (earliest-none n f (λ k l. e k (omega arith))) (e n (omega arith))
-
--- and where there is no earliest, no place is
-pub earliest-each : (n : ℕ) (f : ℕ → ℕ) → earliest n f ≡ 0 → (k : ℕ) → k < n → f k ≡ 0
-unfolding earliest
-earliest-each zero f e k l = absurd (omega arith)
-earliest-each (suc n) f e k l = here (or-none (earliest n f) (f n) e) (earliest-each n f) (ℕ-discrete k n)
-  where
-    here : (earliest n f ≡ 0) × (f n ≡ 0) → (earliest n f ≡ 0 → (k : ℕ) → k < n → f k ≡ 0) → Dec (k ≡ n) → f k ≡ 0
-    here (before, last) each (yes is) = rw is last
-    here (before, last) each (no isn't) = each before k (omega arith)
-
 -- ---- the first n records
-
--- a part of a list lies in its front
-part-front : (k m n : ℕ) (s : List ℕ) → k + m ≤ n → take m (drop k (take n s)) ≡ take m (drop k s)
-part-front zero m n s h = take-take m n s (omega arith)
-part-front (suc k) m zero s h = absurd (omega arith)
-part-front (suc k) m (suc n) [] h = refl
-part-front (suc k) m (suc n) (x ∷ s) h = part-front k m n s (omega arith)
 
 -- two logs with the same first n records
 module _ (s t : List ℕ) (n : ℕ) (same : take (n * recordLong) s ≡ take (n * recordLong) t) where
@@ -106,6 +41,15 @@ module _ (s t : List ℕ) (n : ℕ) (same : take (n * recordLong) s ≡ take (n 
 
 -- ---- what the reader gives, by its places: numbers[k], bits[5 * k + j], cuts[k]
 
+field-at : (bs : List ℕ) (j : ℕ) → j < patternCount → getD (patternFields bs) j 0 ≡ field patternLong (patternsPlace + patternLong * j) bs
+unfolding patternFields
+field-at bs zero l = refl
+field-at bs (suc zero) l = refl
+field-at bs (suc (suc zero)) l = refl
+field-at bs (suc (suc (suc zero))) l = refl
+field-at bs (suc (suc (suc (suc zero)))) l = refl
+field-at bs (suc (suc (suc (suc (suc j))))) l = absurd (omega arith)
+
 module _ (log : List ℕ) (k : ℕ) (l : k < wholeRecords log) where
   single-at : (f : List ℕ → ℕ) → getD (joined (wholeRecords log) (λ i. f (recordIn log i) ∷ [])) k 0 ≡ f (recordIn log k)
   single-at f =
@@ -116,9 +60,10 @@ module _ (log : List ℕ) (k : ℕ) (l : k < wholeRecords log) where
   pub number-at : getD (numbersOf log) k 0 ≡ numberField (recordIn log k)
   number-at = single-at (λ bs. numberField bs)
 
-  pub pattern-at : (j : ℕ) → j < patternCount → getD (patternsOf log) (k * patternCount + j) 0 ≡ getD (patternFields (recordIn log k)) j 0
+  pub pattern-at : (j : ℕ) → j < patternCount
+      → getD (patternsOf log) (k * patternCount + j) 0 ≡ field patternLong (patternsPlace + patternLong * j) (recordIn log k)
   unfolding patternFields
-  pattern-at j h = joined-place patternCount (λ i. patternFields (recordIn log i)) (λ i. refl) (wholeRecords log) k j l h
+  pattern-at j h = joined-place patternCount (λ i. patternFields (recordIn log i)) (λ i. refl) (wholeRecords log) k j l h ∙ field-at (recordIn log k) j h
 
   pub cut-at : getD (cutsOf log) k 0 ≡ cutField (recordIn log k)
   cut-at = single-at (λ bs. cutField bs)
@@ -216,6 +161,39 @@ module _ (log : List ℕ) (j : ℕ) where
       let there : recordFault log (j + k) ≡ 0 = earliest-each (wholeRecords log) (recordFault log) e (j + k) (omega (arith, end-records h)) in
       ap (bytesFault (leastAfter end k)) (end-record k)
       ∙ fault-lower (leastAfter end k) (leastAfter log (j + k)) (recordIn log (j + k)) (least-lower k) there)
+
+  -- a log that is accepted up to record j ..
+  module _ (h : j < wholeRecords log) (front : logFault (take (suc j * recordLong) log) ≡ 0) where
+    abbrev piece : List ℕ
+    piece = take (suc j * recordLong) log
+
+    accepted-before : (k : ℕ) → k ≤ j → recordFault log k ≡ 0
+    unfolding logFault
+    accepted-before k l =
+        let long : length piece ≡ suc j * recordLong = length-take-le (suc j * recordLong) log (omega arith) in
+        let same : take (suc j * recordLong) log ≡ take (suc j * recordLong) piece = sym (take-take (suc j * recordLong) (suc j * recordLong) log (omega arith)) in
+        ap₂ bytesFault (least-same log piece (suc j) same k (omega arith)) (record-same log piece (suc j) same k (omega arith))
+        ∙ earliest-each (wholeRecords piece) (recordFault piece) front k (omega arith)
+
+    -- .. and from it on
+    module _ (back : logFault end ≡ 0) where
+      accepted-behind : (k : ℕ) → k < wholeRecords log → j < k → recordFault log k ≡ 0
+      unfolding logFault
+      accepted-behind k l later =
+          let i : ℕ = k - suc j in
+          let place : k ≡ j + suc i = omega arith in
+          let next : j + suc i ≡ suc (j + i) = omega arith in
+          ap (recordFault log) place
+          ∙ ap₂ bytesFault (ap (leastAfter log) next ∙ sym (end-least i)) (sym (end-record (suc i)))
+          ∙ earliest-each (wholeRecords end) (recordFault end) back (suc i) (omega (arith, end-records (omega arith)))
+
+      pub pieces-accepted : logFault log ≡ 0
+      unfolding logFault
+      pieces-accepted = earliest-none (wholeRecords log) (recordFault log) (λ k l. by k l (leb k j) (leb-true k j) (leb-false k j))
+        where
+          by : (k : ℕ) → k < wholeRecords log → (b : Bool) → (b ≡ true → k ≤ j) → (b ≡ false → j < k) → recordFault log k ≡ 0
+          by k l true is isn't = accepted-before k (is refl)
+          by k l false is isn't = accepted-behind k l (isn't refl)
 
   -- behind its last one too
   pub end-rises : j < wholeRecords log → leastAfter end (wholeRecords end) ≡ leastAfter log (wholeRecords log)

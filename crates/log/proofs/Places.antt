@@ -1,28 +1,28 @@
 -- Where what a record holds lies in the log, and the tests of a record by its bytes. Assumes nothing.
 use mathlib.Core.Path.{_≡_, refl, sym, ap, _∙_}
-use mathlib.Core.Bool.{Bool, true, false, not, _&&_}
+use mathlib.Core.Bool.{not}
 use mathlib.Core.List.{List, [], _∷_}
 use Prim.Native.Nat.{ℕ, zero, suc, _+_, _-_, _*_, _≤_, _<_}
-use native.Mathlib.Nat.{add-zero, sub-zero}
+use native.Mathlib.Nat.{add-zero}
 use native.Mathlib.Omega.{arith}
-use borrow.Author.Tests.{eq-eqb, ne-eqb, lt-ltb, le-ltb}
-use lib.Dec.{eqb, ltb}
-use lib.ListN.{length, take, drop, getD}
-use lib.Seq.{getD-take, getD-drop, drop-drop, take-take, take-nil, drop-nil}
-use Rattle.answer.specs.Refusal.{refusal, _orElse_}
+use borrow.Author.Tests.{ne-eqb, lt-ltb, le-ltb}
+use lib.Dec.{ltb}
+use lib.ListN.{take, drop, getD}
+use lib.Seq.{getD-take, getD-drop, drop-drop, take-take}
 use Rattle.answer.proofs.Laws.{test-given, test-first, test-passed, test-later}
 use Rattle.octets.specs.Octets.{numberOf}
-use Rattle.log.specs.Records.{recordLong, patternLong, patternsPlace, hasMark, field, numberField, patternFields, cutField, bytesFault}
+use Rattle.log.specs.Records.{recordLong, patternLong, patternsPlace, hasMark, field, numberField, patternFields, cutField, laterFault, bytesFault}
 use Rattle.log.specs.Log.{recordIn, leastAfter, joined}
 use Rattle.log.specs.Needs.{patternsAt}
 
 -- ---- places
 
-drop-take : {A : Type 0} (a m : ℕ) (l : List A) → drop a (take m l) ≡ take (m - a) (drop a l)
-drop-take zero m l = rw (sub-zero m)
-drop-take (suc a) zero l = let none : zero - suc a ≡ 0 = omega arith in rw none
-drop-take (suc a) (suc m) [] = drop-nil (suc a) ∙ sym (take-nil (suc m - suc a))
-drop-take (suc a) (suc m) (x ∷ l) = let less : suc m - suc a ≡ m - a = omega arith in rw less (drop-take a m l)
+-- a part of a list lies in its front
+pub part-front : (k m n : ℕ) (s : List ℕ) → k + m ≤ n → take m (drop k (take n s)) ≡ take m (drop k s)
+part-front zero m n s h = take-take m n s (omega arith)
+part-front (suc k) m zero s h = absurd (omega arith)
+part-front (suc k) m (suc n) [] h = refl
+part-front (suc k) m (suc n) (x ∷ s) h = part-front k m n s (omega arith)
 
 module _ (log : List ℕ) (k : ℕ) where
   pub byte-in : (i : ℕ) → i < recordLong → getD (recordIn log k) i 0 ≡ getD log (k * recordLong + i) 0
@@ -35,8 +35,7 @@ module _ (log : List ℕ) (k : ℕ) where
   pub field-in : (n at : ℕ) → at + n ≤ recordLong → field n at (recordIn log k) ≡ field n (k * recordLong + at) log
   unfolding recordIn
   field-in n at h =
-      ap (λ (l : List ℕ). numberOf (take n l)) (drop-take at recordLong (drop (k * recordLong) log))
-      ∙ ap numberOf (take-take n (recordLong - at) (drop at (drop (k * recordLong) log)) (omega arith))
+      ap numberOf (part-front at n recordLong (drop (k * recordLong) log) h)
       ∙ ap (λ (l : List ℕ). numberOf (take n l)) (drop-drop at (k * recordLong) log)
 
   pattern-in : (j : ℕ) → j ≤ 32 → field patternLong (patternsPlace + j) (recordIn log k) ≡ field patternLong (k * recordLong + patternsPlace + j) log
@@ -64,10 +63,19 @@ least-next log (suc k) h =
 
 -- ---- the tests
 
-module _ (least : ℕ) (bs : List ℕ) where
-  marked : getD bs 0 0 ≡ 0x53 → getD bs 1 0 ≡ 0x43 → not (hasMark bs) ≡ false
-  marked e d = rw (e, d)
+-- of a cut and a number
+module _ (cut number least : ℕ) where
+  pub later-cut : 1 < cut → 13 ≡ laterFault cut number least
+  later-cut h = test-first 12 _ (ltb 1 cut) (lt-ltb 1 cut h)
 
+  pub later-number : cut ≤ 1 → number < least → 14 ≡ laterFault cut number least
+  later-number h l = test-later 13 14 _ (ltb 1 cut) (le-ltb 1 cut h) (test-given 14 (ltb number least) (lt-ltb number least l))
+
+  pub later-none : cut ≤ 1 → least ≤ number → 0 ≡ laterFault cut number least
+  later-none h l = test-later 13 0 _ (ltb 1 cut) (le-ltb 1 cut h) (test-passed 14 (ltb number least) (le-ltb number least l))
+
+-- of a record's bytes
+module _ (least : ℕ) (bs : List ℕ) where
   pub fault-first : (getD bs 0 0 ≡ 0x53 → ⊥) → 12 ≡ bytesFault least bs
   unfolding bytesFault
   fault-first h = test-first 11 _ (not (hasMark bs)) (rw (ne-eqb (getD bs 0 0) 0x53 h))
@@ -76,19 +84,6 @@ module _ (least : ℕ) (bs : List ℕ) where
   unfolding bytesFault
   fault-second e h = test-first 11 _ (not (hasMark bs)) (rw (e, ne-eqb (getD bs 1 0) 0x43 h))
 
-  module _ (e : getD bs 0 0 ≡ 0x53) (d : getD bs 1 0 ≡ 0x43) where
-    pub fault-cut : 1 < cutField bs → 13 ≡ bytesFault least bs
-    unfolding bytesFault
-    fault-cut h = test-later 12 13 _ (not (hasMark bs)) (marked e d) (test-first 12 _ (ltb 1 (cutField bs)) (lt-ltb 1 (cutField bs) h))
-
-    pub fault-number : cutField bs ≤ 1 → numberField bs < least → 14 ≡ bytesFault least bs
-    unfolding bytesFault
-    fault-number h l =
-        test-later 12 14 _ (not (hasMark bs)) (marked e d)
-        (test-later 13 14 _ (ltb 1 (cutField bs)) (le-ltb 1 (cutField bs) h) (test-given 14 (ltb (numberField bs) least) (lt-ltb (numberField bs) least l)))
-
-    pub fault-none : cutField bs ≤ 1 → least ≤ numberField bs → 0 ≡ bytesFault least bs
-    unfolding bytesFault
-    fault-none h l =
-        test-later 12 0 _ (not (hasMark bs)) (marked e d)
-        (test-later 13 0 _ (ltb 1 (cutField bs)) (le-ltb 1 (cutField bs) h) (test-passed 14 (ltb (numberField bs) least) (le-ltb (numberField bs) least l)))
+  pub fault-later : (f : ℕ) → getD bs 0 0 ≡ 0x53 → getD bs 1 0 ≡ 0x43 → f ≡ laterFault (cutField bs) (numberField bs) least → f ≡ bytesFault least bs
+  unfolding bytesFault
+  fault-later f e d g = test-later 12 f _ (not (hasMark bs)) (rw (e, d)) g

@@ -11,16 +11,18 @@ use lib.Seq.{take-all, take-take, length-take-le}
 use Rattle.answer.specs.Refusal.{refusal, _orElse_}
 use Rattle.answer.proofs.Laws.{or-none, passed, lent-written, lent-kept}
 use Rattle.octets.specs.Octets.{overwritten}
+use Rattle.octets.proofs.Laws.{nan-pattern}
 use Rattle.octets.proofs.Over.{over-take, over-past, over-again, over-end, over-rest}
 use Rattle.log.specs.declared.Record.{Record}
-use Rattle.log.specs.Records.{recordLong, patterns, recordBytes, numberField, patternFields, cutField}
+use Rattle.log.specs.Records.{recordLong, patterns, recordBytes, numberField, patternFields, cutField, laterFault}
 use Rattle.log.specs.Log.{wholeRecords, tornRest, wholeLong, recordIn, leastAfter, recordFault, logFault, numbersOf, patternsOf, cutsOf}
 use Rattle.log.specs.Log.{newFault, appendFault, appended, lentAfterAppend}
 use Rattle.log.specs.Promises.{Reading, readingOf, andRecord, andRest, cutShort, cardAfter, AllTaken, readAll}
-use Rattle.log.specs.Promises.{AppendLeaves, RoundTrip, StaysALog, PowerCut, AfterTheCut, NothingOnRefusal, EndWillDo, CardsLife, ScanAccepts}
-use Rattle.log.proofs.RecordLaws.{record-long, number-back, patterns-back, cut-back, laterFault, fault-written, Sound, sound}
+use Rattle.log.specs.Promises.{AppendLeaves, RoundTrip, StaysALog, PowerCut, AfterTheCut, NothingOnRefusal, EndWillDo, InPieces, CardsLife, ScanAccepts, OnePattern, ByPlace}
+use Rattle.log.proofs.RecordLaws.{record-long, number-back, patterns-back, cut-back, fault-written, Sound, sound}
 use Rattle.log.proofs.LogLaws.{records-stay, rest-reaches, fault-stays, least-stays, fields-stay, no-rest, fault-more, fields-more}
-use Rattle.log.proofs.LogLaws.{earliest-each, number-at, cut-at, end-records, end-rises, end-accepted}
+use Rattle.log.proofs.LogLaws.{number-at, pattern-at, cut-at, end-records, end-rises, end-accepted, pieces-accepted}
+use Rattle.log.proofs.Each.{earliest-each}
 
 -- It holds since the new record stands behind the old ones, and each of its fields is read back from its bytes.
 pub round-trip : RoundTrip
@@ -34,6 +36,9 @@ round-trip log r t = λ i. record { numbers = numbers i; bits = bits i; cuts = c
 
     cuts : cutsOf (appended log r) ≡ cutsOf log ++ r .cut ∷ []
     cuts = fields-more log (recordBytes r) (record-long r) (λ bs. cutField bs ∷ []) ∙ ap (λ (c : ℕ). cutsOf log ++ c ∷ []) (cut-back r)
+
+pub one-pattern : OnePattern
+one-pattern = nan-pattern
 
 -- It holds since the old records stay as they were, and the new one is at fault only where the append is refused.
 pub stays-a-log : StaysALog
@@ -162,6 +167,10 @@ end-will-do log j e l = record {
     there : wholeLong log ≡ front + wholeLong (drop front log)
     there = omega (arith, end-records log j (omega arith))
 
+-- It holds since each record but the first of a piece is tested there as in the whole log.
+pub in-pieces : InPieces
+in-pieces log j h front back = pieces-accepted log j h front back
+
 -- It holds since a log with no fault has no record at fault.
 pub scan-accepts : ScanAccepts
 unfolding logFault leastAfter
@@ -173,3 +182,7 @@ scan-accepts log e = record {
   where
     here : (k : ℕ) → k < wholeRecords log → Sound (leastAfter log k) (recordIn log k)
     here k l = sound (leastAfter log k) (recordIn log k) (earliest-each (wholeRecords log) (recordFault log) e k l)
+
+-- It holds since each record gives as many items as every other.
+pub by-place : ByPlace
+by-place log k l = record { number = number-at log k l; pattern = pattern-at log k l; cut = cut-at log k l }

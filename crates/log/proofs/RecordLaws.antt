@@ -6,16 +6,15 @@ use Prim.Native.Nat.{ℕ, zero, suc, _+_, _*_, _^_, _≤_, _<_}
 use native.Mathlib.Omega.{arith}
 use borrow.Author.Tests.{ltb-false, le-ltb, not-false}
 use lib.Dec.{ltb}
-use lib.Ieee.{nan, binary64, toBits}
 use lib.ListN.{length, getD, length-append}
 use lib.Seq.{take-at, drop-at, getD-at}
 use Rattle.answer.specs.Refusal.{refusal, _orElse_}
 use Rattle.answer.proofs.Laws.{or-none, or-both, or-later, passed}
 use Rattle.octets.specs.Octets.{bytesOf}
-use Rattle.octets.proofs.Laws.{bytes-long, number-bytes, nan-pattern, bits-below}
+use Rattle.octets.proofs.Laws.{bytes-long, number-bytes, bits-below}
 use Rattle.log.specs.declared.Record.{Record}
 use Rattle.log.specs.Records.{recordLong, numberPlace, numberLong, patternsPlace, patternLong, patternCount, cutPlace, patterns, patternBytes, recordBytes}
-use Rattle.log.specs.Records.{hasMark, field, numberField, patternFields, cutField, bytesFault}
+use Rattle.log.specs.Records.{hasMark, field, numberField, patternFields, cutField, laterFault, bytesFault}
 use Rattle.log.specs.Promises.{Typed}
 
 -- ---- a field among other bytes
@@ -105,16 +104,7 @@ module _ (r : Record) (t : Typed r) where
   patterns-back =
       rw (pattern-here 0 (omega arith), pattern-here 1 (omega arith), pattern-here 2 (omega arith), pattern-here 3 (omega arith), pattern-here 4 (omega arith))
 
--- "NaNs are written as 7FF8000000000000 (hex)": whichever of the five is one, this is read in its place
-pub nan-written : (r : Record) → Typed r → (j : ℕ) → j < patternCount → getD (patterns r) j 0 ≡ toBits binary64 nan
-    → field patternLong (patternsPlace + patternLong * j) (recordBytes r) ≡ 0x7FF8_0000_0000_0000
-nan-written r t j l e = pattern-here r t j l ∙ e ∙ nan-pattern
-
 -- ---- a record's fault
-
--- what is tested behind the mark: the cut, then the number
-abbrev pub laterFault : ℕ → ℕ → ℕ → ℕ
-laterFault cut number least = refusal 13 (ltb 1 cut) orElse refusal 14 (ltb number least)
 
 -- a record that is not at fault
 pub record Sound (least : ℕ) (bs : List ℕ) : Type 0 where

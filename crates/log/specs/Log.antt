@@ -8,7 +8,7 @@ use Rattle.answer.specs.Answer.{Answer, answered, lentAfter}
 use Rattle.answer.specs.Refusal.{refusal, _orElse_}
 use Rattle.octets.specs.Octets.{overwritten}
 use Rattle.log.specs.declared.Record.{Record}
-use Rattle.log.specs.Records.{recordLong, patternCount, recordBytes, numberField, patternFields, cutField, bytesFault}
+use Rattle.log.specs.Records.{recordLong, patternCount, recordBytes, numberField, patternFields, cutField, laterFault, bytesFault}
 
 -- "every whole record and the length of the torn rest"
 abbrev pub wholeRecords : List ℕ → ℕ
@@ -91,7 +91,7 @@ readInto fault new old = lentAfter fault (overwritten 0 new old) old
 
 -- "13 (cut above 1) and 14 of the new one": its mark is never bad
 unfoldable pub newFault : List ℕ → Record → ℕ
-newFault log r = refusal 13 (ltb 1 (r .cut)) orElse refusal 14 (ltb (r .number) (leastAfter log (wholeRecords log)))
+newFault log r = laterFault (r .cut) (r .number) (leastAfter log (wholeRecords log))
 
 -- "15 where used is above the length; 12, 13, 14 of the old records; 13 and 14 of the new one; 15". The log so far is the first `used` bytes.
 unfoldable pub appendFault : List ℕ → ℕ → Record → ℕ

@@ -5,11 +5,11 @@ use mathlib.Core.Bool.{true, cond}
 use mathlib.Core.List.{List, [], _∷_, _++_}
 use Prim.Native.Nat.{ℕ, suc, _+_, _*_, _≤_, _<_, _^_, max}
 use lib.Dec.{T, eqb}
-use lib.Ieee.{binary64, fits}
+use lib.Ieee.{binary64, fits, nan, toBits}
 use lib.ListN.{length, take, drop, getD}
 use Rattle.octets.specs.Octets.{overwritten}
 use Rattle.log.specs.declared.Record.{Record}
-use Rattle.log.specs.Records.{recordLong, patterns, recordBytes, hasMark}
+use Rattle.log.specs.Records.{recordLong, patternsPlace, patternLong, patternCount, patterns, recordBytes, hasMark, field, numberField, cutField}
 use Rattle.log.specs.Log.{wholeRecords, tornRest, wholeLong, recordIn, logFault, numbersOf, patternsOf, cutsOf}
 use Rattle.log.specs.Log.{readInto, newFault, appendFault, appended, lentAfterAppend}
 
@@ -64,9 +64,13 @@ pub record Leaves (lent : List ℕ) (used : ℕ) (r : Record) : Type 0 where
 abbrev pub AppendLeaves : Type 0
 AppendLeaves = (lent : List ℕ) (used : ℕ) (r : Record) → appendFault lent used r ≡ 0 → Leaves lent used r
 
--- 2. Round trip: what was appended is read back, number, cut and all five bit patterns, behind all that was read before.
+-- 2. Round trip: what was appended is read back, number, cut and all five bit patterns, behind all that was read before; of a NaN the one
+-- pattern.
 abbrev pub RoundTrip : Type 0
 RoundTrip = (log : List ℕ) (r : Record) → Typed r → readingOf (appended log r) ≡ andRecord (readingOf log) r
+
+abbrev pub OnePattern : Type 0
+OnePattern = toBits binary64 nan ≡ 0x7FF8_0000_0000_0000
 
 -- 3. Appending keeps it a log.
 abbrev pub StaysALog : Type 0
@@ -102,7 +106,14 @@ pub record EndAlone (log : List ℕ) (j : ℕ) : Type 0 where
 abbrev pub EndWillDo : Type 0
 EndWillDo = (log : List ℕ) (j : ℕ) → logFault log ≡ 0 → j < wholeRecords log → EndAlone log j
 
--- 8. A card's life: appends one after the other, each of which the power may cut after k of its bytes.
+-- 8. A log may be scanned in pieces: accepted up to record j and from record j on, it is accepted. Record j stands in both, so that numbers are
+-- seen to rise from one piece to the next.
+abbrev pub InPieces : Type 0
+InPieces =
+    (log : List ℕ) (j : ℕ) → j < wholeRecords log
+    → logFault (take (suc j * recordLong) log) ≡ 0 → logFault (drop (j * recordLong) log) ≡ 0 → logFault log ≡ 0
+
+-- 9. A card's life: appends one after the other, each of which the power may cut after k of its bytes.
 pub record Try : Type 0 where
   pub what : Record
   pub bytes : ℕ
@@ -129,7 +140,7 @@ CardsLife =
     (log : List ℕ) (ts : List Try) → logFault log ≡ 0 → AllTaken log ts
     → (logFault (cardAfter log ts) ≡ 0) × (readingOf (cardAfter log ts) ≡ readAll (readingOf log) ts)
 
--- 9. What scan accepts: every record has the mark, numbers rise strictly, and each cut is 0 or 1.
+-- 10. What scan accepts: every record has the mark, numbers rise strictly, and each cut is 0 or 1.
 pub record InOrder (log : List ℕ) : Type 0 where
   pub marks : (k : ℕ) → k < wholeRecords log → hasMark (recordIn log k) ≡ true
   pub rise : (k : ℕ) → suc k < wholeRecords log → getD (numbersOf log) k 0 < getD (numbersOf log) (suc k) 0
@@ -137,3 +148,13 @@ pub record InOrder (log : List ℕ) : Type 0 where
 
 abbrev pub ScanAccepts : Type 0
 ScanAccepts = (log : List ℕ) → logFault log ≡ 0 → InOrder log
+
+-- 11. Where the reader puts it: record k's number is numbers[k], its patterns are bits[5 * k] to bits[5 * k + 4], and its cut is cuts[k].
+pub record Placed (log : List ℕ) (k : ℕ) : Type 0 where
+  pub number : getD (numbersOf log) k 0 ≡ numberField (recordIn log k)
+  pub pattern : (j : ℕ) → j < patternCount
+      → getD (patternsOf log) (k * patternCount + j) 0 ≡ field patternLong (patternsPlace + patternLong * j) (recordIn log k)
+  pub cut : getD (cutsOf log) k 0 ≡ cutField (recordIn log k)
+
+abbrev pub ByPlace : Type 0
+ByPlace = (log : List ℕ) (k : ℕ) → k < wholeRecords log → Placed log k

@@ -47,7 +47,7 @@ recordBy n inter importance backward forward limit c = record {
   cut = c;
 }
 
--- the bit patterns; "NaNs are written as 7FF8000000000000 (hex)", which is what `toBits` gives of a NaN (proofs/RecordLaws.antt)
+-- the bit patterns; "NaNs are written as 7FF8000000000000 (hex)", which is what `toBits` gives of a NaN (`nan-pattern`, octets/proofs/Laws.antt)
 abbrev pub patterns : Record → List ℕ
 patterns r =
     toBits binary64 (r .«inter_cost»)
@@ -82,6 +82,12 @@ patternFields bs = field patternLong 6 bs ∷ field patternLong 14 bs ∷ field 
 abbrev pub cutField : List ℕ → ℕ
 cutField bs = getD bs cutPlace 0
 
--- "12 bad mark, 13 cut byte above 1, 14 number not rising; tested in that order": of a record, where the least number that rises is given
+-- ---- "12 bad mark, 13 cut byte above 1, 14 number not rising; tested in that order", where the least number that rises is given
+
+-- of a cut and a number
+abbrev pub laterFault : ℕ → ℕ → ℕ → ℕ
+laterFault cut number least = refusal 13 (ltb 1 cut) orElse refusal 14 (ltb number least)
+
+-- of a record's bytes
 unfoldable pub bytesFault : ℕ → List ℕ → ℕ
-bytesFault least bs = refusal 12 (not (hasMark bs)) orElse refusal 13 (ltb 1 (cutField bs)) orElse refusal 14 (ltb (numberField bs) least)
+bytesFault least bs = refusal 12 (not (hasMark bs)) orElse laterFault (cutField bs) (numberField bs) least

@@ -2,7 +2,7 @@
 // writes over.
 ghost use mathlib.Core.Path.{_≡_};
 ghost use Prim.Native.Nat.{suc, _+_, _*_, _≤_};
-ghost use lib.ListN.{length, take, drop};
+ghost use lib.ListN.{length};
 ghost use Rattle.answer.specs.Answer.{wholeAnswer, answered, lentAfter};
 ghost use Rattle.answer.specs.Refusal.{_orElse_};
 ghost use Rattle.octets.specs.Octets.{overwritten};
@@ -35,10 +35,10 @@ const COUNT: usize = 5;
 
 const CUT: usize = 46;
 
-// The mark, 53 43 in hex.
-const MARK: u8 = 83;
+// The mark's two bytes.
+const MARK: u8 = 0x53;
 
-const MARK_SECOND: u8 = 67;
+const MARK_SECOND: u8 = 0x43;
 
 // The least number that rises behind k records.
 fn least_after(log: &[u8], k: usize) -> u64

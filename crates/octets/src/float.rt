@@ -4,14 +4,14 @@ ghost use lib.Ieee.{binary64, nanBits, toBits, ofBits};
 ghost use Rattle.octets.specs.Octets.{hasBits};
 
 // The sign's bit; the lowest bit of the exponent; an exponent of ones, as infinity and the NaNs have it.
-const SIGN: u64 = 9223372036854775808;
+const SIGN: u64 = 0x8000000000000000;
 
-const FRACTION: u64 = 4503599627370496;
+const FRACTION: u64 = 0x0010000000000000;
 
-const ONES: u64 = 2047;
+const ONES: u64 = 0x7ff;
 
-// The pattern that every NaN is written as, 7FF8000000000000.
-const NAN: u64 = 9221120237041090560;
+// The pattern that every NaN is written as.
+const NAN: u64 = 0x7ff8000000000000;
 
 pub fn is_nan(bits: u64) -> bool
     ensures { λ r. ⌜ r ≡ nanBits binary64 bits ⌝ }

@@ -1,6 +1,6 @@
 -- `log::least_after` meets its contract: behind a record, one more than its number. Assumes nothing.
 use mathlib.Core.Path.{_∙_, ap}
-use Prim.Native.Nat.{ℕ, suc, _+_, _*_, _-_}
+use Prim.Native.Nat.{suc, _+_, _*_, _-_}
 use native.Mathlib.Numerals.{add-one}
 use native.Mathlib.Omega.{arith}
 use borrow.Author.Needs.{needs}
@@ -44,7 +44,7 @@ returns-2 c =
     let a = c .before .before .before .args in
     let log = a .log .now in
     let at = (a .k - 1) * recordLong + 2 in
-    rw (add-one (c .u32-at .result)) (ap suc (c .u32-at .ensures ∙ number-here 4 at log (omega arith)) ∙ least-next log (a .k) (c .before .if1 .left))
+    add-one (c .u32-at .result) ∙ ap suc (c .u32-at .ensures ∙ number-here 4 at log (omega arith)) ∙ least-next log (a .k) (c .before .if1 .left)
 
 pub least-after-spec : {M : Type 1} → statement M
 least-after-spec =

@@ -1,14 +1,14 @@
 -- `log::put_patterns` meets its contract: each float's pattern is written behind the one before it. Assumes nothing.
-use mathlib.Core.Path.{_≡_, sym, ap, _∙_}
-use mathlib.Core.List.{List, [], _++_, append-assoc, append-nil}
-use Prim.Native.Nat.{ℕ, _+_, _≤_}
+use mathlib.Core.Path.{_≡_, ap, _∙_}
+use mathlib.Core.List.{List, _++_, append-assoc, append-nil}
+use Prim.Native.Nat.{ℕ, _+_}
 use native.Mathlib.Omega.{arith}
 use borrow.Author.Needs.{needs}
 use lib.Ieee.{binary64, toBits}
 use lib.ListN.{length, length-append}
 use Rattle.octets.specs.Octets.{bytesOf, overwritten}
 use Rattle.octets.proofs.Laws.{bytes-long, with-here}
-use Rattle.log.specs.Records.{patternLong, patterns, patternBytes}
+use Rattle.log.specs.Records.{patternLong, patternBytes}
 use Rattle.log.proofs.Puts.{number-next}
 use Rattle.log.proofs.put_patterns.Statement.{statement}
 use Rattle.log.proofs.put_patterns.Tie as tie

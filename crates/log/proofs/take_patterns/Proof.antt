@@ -1,7 +1,7 @@
 -- `log::take_patterns` meets its contract: after j turns the first j patterns stand in the list. Assumes nothing.
 use mathlib.Core.Path.{_≡_, refl, sym, ap, _∙_}
-use mathlib.Core.List.{List, [], _∷_, _++_}
-use Prim.Native.Nat.{ℕ, suc, _+_, _*_, _-_, _≤_, _<_}
+use mathlib.Core.List.{List}
+use Prim.Native.Nat.{ℕ, _+_, _*_, _-_, _≤_}
 use native.Mathlib.Numerals.{add-one}
 use native.Mathlib.Omega.{arith}
 use borrow.Author.Needs.{needs}
@@ -12,7 +12,7 @@ use Rattle.octets.proofs.Over.{over-none, over-set}
 use Rattle.log.specs.Records.{patternLong, patternCount, field}
 use Rattle.log.specs.Log.{joined}
 use Rattle.log.specs.Needs.{patternAt}
-use Rattle.log.proofs.LogLaws.{joined-none, joined-next, joined-long}
+use Rattle.log.proofs.Each.{joined-none, joined-next, joined-long}
 use Rattle.log.proofs.take_patterns.Statement.{statement}
 use Rattle.log.proofs.take_patterns.Tie as tie
 

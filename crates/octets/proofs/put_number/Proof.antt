@@ -1,12 +1,12 @@
 -- `octets::put_number` meets its contract: after i turns the i low bytes stand there, and what is left is the number without them. Assumes
 -- nothing.
-use mathlib.Core.Path.{_≡_, refl, sym, ap, _∙_}
+use mathlib.Core.Path.{_≡_, refl, sym, ap, ap₂, _∙_}
 use mathlib.Core.List.{List}
-use Prim.Native.Nat.{ℕ, _+_, _-_, _%_, _≤_}
+use Prim.Native.Nat.{ℕ, suc, _+_, _-_, _/_, _%_, _≤_}
 use native.Mathlib.Numerals.{add-one}
 use native.Mathlib.Omega.{arith}
 use borrow.Author.Needs.{needs}
-use lib.ListN.{length, length-set}
+use lib.ListN.{length, set, length-set}
 use Rattle.octets.specs.Octets.{bytesOf, overwritten}
 use Rattle.octets.proofs.Laws.{bytes-long}
 use Rattle.octets.proofs.Over.{over-none, over-set}
@@ -46,13 +46,16 @@ loop-again c =
     let x = b .before .args .x in
     let i = b .loop .i in
     let long : length (bytesOf i x) ≡ i = bytes-long i x in
-    let place : at + i ≡ at + length (bytesOf i x) = omega arith in (
+    let place : at + i ≡ at + length (bytesOf i x) = omega arith in
+    let byte : b .loop .rest % 256 ≡ higher i x % 256 = ap (λ (n : ℕ). n % 256) (b .loop .inv .1 .1 .1) in
+    let behind : set (overwritten at (bytesOf i x) s) (at + i) (higher i x % 256) ≡ overwritten at (bytesOf (suc i) x) s =
+    rw (bytes-more i x, place) (over-set at (bytesOf i x) s (higher i x % 256) (omega arith)) in (
       omega arith,
       (
         length-set (b .loop .s) (at + i) (b .loop .rest % 256) ∙ b .loop .inv .1 .0,
         (
-          rw (add-one i, b .loop .inv .1 .1 .0, b .loop .inv .1 .1 .1, bytes-more i x, place) (over-set at (bytesOf i x) s (higher i x % 256) (omega arith)),
-          rw (add-one i, b .loop .inv .1 .1 .1) (sym (higher-next i x)),
+          ap₂ (λ (l : List ℕ) (n : ℕ). set l (at + i) n) (b .loop .inv .1 .1 .0) byte ∙ behind ∙ ap (λ (n : ℕ). overwritten at (bytesOf n x) s) (sym (add-one i)),
+          ap (λ (n : ℕ). n / 256) (b .loop .inv .1 .1 .1) ∙ sym (higher-next i x) ∙ ap (λ (n : ℕ). higher n x) (sym (add-one i)),
         ),
       ),
     )

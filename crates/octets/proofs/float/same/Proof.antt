@@ -1,5 +1,4 @@
 -- `octets::float::same` meets its contract: it asks for the bits of a float that equals itself, so it is no NaN. Assumes nothing.
-use mathlib.Core.Path.{_∙_}
 use borrow.Author.Needs.{needs}
 use lib.Ieee.{isNan}
 use Rattle.octets.proofs.Patterns.{is-number, is-some, is-none}

@@ -1,0 +1,67 @@
+#include "pieces.h"
+
+#include <errno.h>
+#include <inttypes.h>
+#include <stdio.h>
+#include <string.h>
+#include <unistd.h>
+
+void pieces_start(struct pieces *pieces, const char *name, int file)
+{
+    memset(pieces, 0, sizeof *pieces);
+    pieces->name = name;
+    pieces->file = file;
+}
+
+/* The last record comes first in the next piece: so the library sees that numbers rise from one piece to the next. */
+static void carry_over(struct pieces *pieces)
+{
+    if (pieces->records == 0)
+        return;
+    pieces->before += pieces->records - 1;
+    pieces->shared = 1;
+    pieces->used = BRINE_RECORD_BYTES;
+    memmove(pieces->bytes, pieces->bytes + (pieces->records - 1) * BRINE_RECORD_BYTES, BRINE_RECORD_BYTES);
+}
+
+static enum status fill(struct pieces *pieces)
+{
+    while (pieces->used < sizeof pieces->bytes && !pieces->ended) {
+        const ssize_t got = read(pieces->file, pieces->bytes + pieces->used, sizeof pieces->bytes - pieces->used);
+        if (got < 0 && errno != EINTR)
+            return say_failed("%s: %s", pieces->name, strerror(errno));
+        pieces->ended = got == 0;
+        pieces->used += got > 0 ? (size_t)got : 0;
+    }
+    return DONE;
+}
+
+/* The record at fault is the one behind the longest beginning that the library accepts. */
+static enum status refused(const struct pieces *pieces, int64_t answer)
+{
+    char what[512];
+    uint64_t torn = 0;
+    size_t good = 0;
+
+    while (brine_log_scan(pieces->bytes, (good + 1) * BRINE_RECORD_BYTES, &torn) >= 0)
+        good++;
+    const uint64_t record = pieces->before + good;
+    snprintf(what, sizeof what, "%.256s: record %" PRIu64 " at byte %" PRIu64, pieces->name, record,
+             record * BRINE_RECORD_BYTES);
+    return say_refused(what, answer);
+}
+
+enum status pieces_next(struct pieces *pieces)
+{
+    uint64_t torn = 0;
+
+    carry_over(pieces);
+    const enum status status = fill(pieces);
+    if (status != DONE)
+        return status;
+    const int64_t answer = brine_log_scan(pieces->bytes, pieces->used, &torn);
+    if (answer < 0)
+        return refused(pieces, answer);
+    pieces->records = (size_t)answer;
+    return DONE;
+}
