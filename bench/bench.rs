@@ -1,5 +1,6 @@
 //! The proved library beside the crate's portable Rust: the same inputs, one run, best of alternating rounds.
 mod library;
+mod logs;
 #[allow(dead_code)] // the oracle wants more of them
 #[path = "../oracle/src/sizes.rs"]
 mod sizes;
@@ -215,4 +216,5 @@ fn main() {
     }
     transform();
     step();
+    logs::all();
 }

@@ -3,6 +3,9 @@ use std::ffi::c_double;
 
 use crate::sizes::{NUMBERS, SCORES};
 
+/// The bytes of a record of a log.
+pub const RECORD: usize = 47;
+
 pub struct Lent<'a> {
     pub samples: &'a [u8],
     pub width: usize,
@@ -23,6 +26,11 @@ unsafe extern "C" {
     fn brine_detector_step(numbers: *mut u64, numbers_len: usize, scores: *mut c_double, scores_len: usize, set_len: usize,
         frame: u64, previous_keyframe: u64, inter: *const c_double, inter_len: usize, importance: *const c_double,
         importance_len: usize, threshold: *const c_double, threshold_len: usize) -> i64;
+    fn brine_log_scan(log: *const u8, len: usize, torn: *mut u64) -> i64;
+    fn brine_log_read(log: *const u8, len: usize, numbers: *mut u32, numbers_len: usize, bits: *mut u64, bits_len: usize,
+        cuts: *mut u8, cuts_len: usize, torn: *mut u64) -> i64;
+    fn brine_log_append(log: *mut u8, len: usize, used: usize, number: u32, inter: c_double, importance: c_double,
+        backward: c_double, forward: c_double, threshold: c_double, cut: u32) -> i64;
 }
 
 pub fn difference(a: &Lent, b: &Lent) -> i64 {
@@ -82,4 +90,27 @@ impl Detector {
                 inter.as_ptr(), inter.len(), importance.as_ptr(), importance.len(), threshold.as_ptr(), threshold.len())
         }
     }
+}
+
+/// How many records, and the length of the rest.
+pub fn log_scan(log: &[u8]) -> (i64, u64) {
+    let mut torn = 0;
+    // SAFETY: as above.
+    let count = unsafe { brine_log_scan(log.as_ptr(), log.len(), &mut torn) };
+    (count, torn)
+}
+
+pub fn log_read(log: &[u8], numbers: &mut [u32], bits: &mut [u64], cuts: &mut [u8]) -> (i64, u64) {
+    let mut torn = 0;
+    // SAFETY: as above.
+    let count = unsafe {
+        brine_log_read(log.as_ptr(), log.len(), numbers.as_mut_ptr(), numbers.len(), bits.as_mut_ptr(), bits.len(),
+            cuts.as_mut_ptr(), cuts.len(), &mut torn)
+    };
+    (count, torn)
+}
+
+pub fn log_append(log: &mut [u8], used: usize, number: u32, [a, b, c, d, e]: [f64; 5], cut: u32) -> i64 {
+    // SAFETY: as above.
+    unsafe { brine_log_append(log.as_mut_ptr(), log.len(), used, number, a, b, c, d, e, cut) }
 }

@@ -1,5 +1,6 @@
 /* Reads cases with the crate's answers from the standard input, gives each to the library, and compares. */
 #include "beside_detector.h"
+#include "beside_log.h"
 #include "brinepulley.h"
 #include "cases.h"
 #include "lend.h"
@@ -149,6 +150,8 @@ int main(void)
         case STATE: detector_state(); break;
         case STEP: detector_step(); break;
         case FILM: whole_film(); break;
+        case LOG: log_read(); break;
+        case APPEND: log_append(); break;
         default: stop("an unknown kind of record");
         }
     }
@@ -160,6 +163,8 @@ int main(void)
     printf("compared:");
     for (int i = 0; i < MEASURES; i++) printf("%s %s %" PRIu64, i == 0 ? "" : ",", measures[i], measured[i]);
     printf("\n");
+    printf("compared: %" PRIu64 " log scans, %" PRIu64 " log reads of %" PRIu64 " records, %" PRIu64 " log appends\n", scans, reads,
+           records_read, appends);
     print_failures();
     printf("%" PRIu64 " passed, %" PRIu64 " failed\n", passed, failed);
     return failed != 0;

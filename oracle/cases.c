@@ -71,7 +71,7 @@ int same(double a, double b) { return (a != a && b != b) || memcmp(&a, &b, sizeo
 static struct {
     const char *what;
     uint64_t count;
-} failures[16];
+} failures[32];
 
 void verdict(int ok, const char *what, int64_t due, int64_t got)
 {

@@ -144,3 +144,55 @@ int64_t __wrap_brine_detector_step(STEP)
     if (does("step-writes-threshold")) spoil(threshold, threshold_len * sizeof *threshold);
     return r;
 }
+
+int64_t __real_brine_log_scan(const uint8_t *log, size_t log_len, uint64_t *torn);
+int64_t __wrap_brine_log_scan(const uint8_t *log, size_t log_len, uint64_t *torn)
+{
+    int64_t r = __real_brine_log_scan(log, log_len, torn);
+    if (does("scan-writes-the-log")) spoil(log, log_len);
+    if (does("torn-when-scan-refused") && r < 0) *torn = 0;
+    if (does("torn-behind-its-place")) torn[1] = 1;
+    return r;
+}
+
+#define READ                                                                                                           \
+    const uint8_t *log, size_t log_len, uint32_t *numbers, size_t numbers_len, uint64_t *bits, size_t bits_len,        \
+        uint8_t *cuts, size_t cuts_len, uint64_t *torn
+
+int64_t __real_brine_log_read(READ);
+int64_t __wrap_brine_log_read(READ)
+{
+    int64_t r = __real_brine_log_read(log, log_len, numbers, numbers_len, bits, bits_len, cuts, cuts_len, torn);
+    const size_t count = r < 0 ? 0 : (size_t)r;
+    if (does("read-writes-the-log")) spoil(log, log_len);
+    if (does("torn-when-read-refused") && r < 0) *torn = 0;
+    if (does("read-numbers-when-refused") && r < 0) spoil(numbers, numbers_len * sizeof *numbers);
+    if (does("read-bits-when-refused") && r < 0) spoil(bits, bits_len * sizeof *bits);
+    if (does("read-cuts-when-refused") && r < 0) spoil(cuts, cuts_len);
+    if (does("read-numbers-past-the-records") && r >= 0 && count < numbers_len) numbers[count] = 0;
+    if (does("read-bits-past-the-records") && r >= 0 && 5 * count < bits_len) bits[5 * count] = 0;
+    if (does("read-cuts-past-the-records") && r >= 0 && count < cuts_len) cuts[count] = 0;
+    for (size_t i = 0; does("read-makes-nans-one") && i < 5 * count; i++)
+        if (bits[i] << 1 > UINT64_C(0xffe0) << 48) bits[i] = UINT64_C(0x7ff8) << 48;
+    return r;
+}
+
+#define APPEND                                                                                                         \
+    uint8_t *log, size_t log_len, size_t used, uint32_t number, double inter, double importance, double backward,      \
+        double forward, double threshold, uint32_t cut
+
+int64_t __real_brine_log_append(APPEND);
+int64_t __wrap_brine_log_append(APPEND)
+{
+    int64_t r = __real_brine_log_append(log, log_len, used, number, inter, importance, backward, forward, threshold, cut);
+    if (does("append-when-refused") && r < 0) spoil(log, log_len);
+    if (does("append-past-the-record") && r >= 0 && (size_t)r < log_len) log[r] = 0;
+    if (does("append-before-the-record") && r > BRINE_RECORD_BYTES) log[r - BRINE_RECORD_BYTES - 1] ^= 1;
+    if (does("append-swaps-two-floats") && r >= 0) {
+        uint8_t *backward_bytes = log + r - 25, kept[8];
+        memcpy(kept, backward_bytes, 8);
+        memcpy(backward_bytes, backward_bytes + 8, 8);
+        memcpy(backward_bytes + 8, kept, 8);
+    }
+    return r;
+}

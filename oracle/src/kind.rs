@@ -13,4 +13,6 @@ pub enum Kind {
     State = 8,
     Step = 9,
     Film = 10,
+    Log = 11,
+    Append = 12,
 }

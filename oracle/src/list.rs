@@ -4,6 +4,8 @@ use crate::desk::{Desk, LENGTHS, put_state};
 use crate::detector_cases;
 use crate::edges;
 use crate::list_cases;
+use crate::log_cases;
+use crate::log_edges;
 use crate::measures_reading::{Lent, intra_fault};
 use crate::plane_cases::{depth, hurt_one, intra_of, pair_of, shaped};
 use crate::random::Random;
@@ -12,6 +14,11 @@ use crate::reading::{self, Call, ROOM, SCORES, STANDARD, State};
 /// How often each measure is drawn; some are refused. How many calls the crate answers.
 const MEASURES: u64 = 150;
 const CALLS: u64 = 2_000;
+/// How often a log is drawn, and the most records that it has.
+const LOGS: u64 = 40;
+const LOG_MOST: u64 = 12;
+/// How many recorders append to a log of their own.
+const RECORDERS: u64 = 5;
 
 fn sides(r: &mut Random) -> (u64, u64) {
     if r.once_in(2) {
@@ -166,5 +173,18 @@ pub fn all(desk: &mut Desk, r: &mut Random) {
     }
     while desk.tally.calls < CALLS {
         detector_cases::run(desk, r);
+    }
+    logs(desk, r);
+}
+
+/// The logs come last: the lines above are the same with them and without.
+fn logs(desk: &mut Desk, r: &mut Random) {
+    log_edges::all(desk);
+    for _ in 0..LOGS {
+        log_cases::read(desk, r, LOG_MOST);
+        log_cases::append(desk, r, LOG_MOST);
+    }
+    for _ in 0..RECORDERS {
+        log_cases::recorder(desk, r);
     }
 }

@@ -13,6 +13,9 @@ mod films;
 mod kind;
 mod list;
 mod list_cases;
+mod log_cases;
+mod log_edges;
+mod log_reading;
 mod measures_reading;
 mod memory;
 mod paper;
@@ -30,6 +33,9 @@ use desk::Desk;
 use random::Random;
 use stream::Stream;
 use tally::Tally;
+
+/// The most records of a log.
+const LOG_MOST: u64 = 40;
 
 fn main() {
     let argument = |i: usize| std::env::args().nth(i).unwrap_or_default();
@@ -61,7 +67,21 @@ fn main() {
     while desk.tally.calls < count {
         detector_cases::run(&mut desk, &mut r);
     }
+    logs(&mut desk, &mut r, count / 10 + 20);
     finish(&mut out, &tally, seed);
+}
+
+/// The logs come last: the cases above are the same with them and without.
+fn logs(desk: &mut Desk, r: &mut Random, count: u64) {
+    log_edges::all(desk);
+    log_edges::large(desk);
+    for _ in 0..count {
+        log_cases::read(desk, r, LOG_MOST);
+        log_cases::append(desk, r, LOG_MOST);
+    }
+    for _ in 0..count / 20 {
+        log_cases::recorder(desk, r);
+    }
 }
 
 fn list(seed: &str) {

@@ -1,7 +1,9 @@
 //! The memory of crates/replay as the fixed list edits it: one word for each place that is given or lent.
 
 /// Numbers come first: the answer that is due and what is given, then the numbers of a state.
+/// The last of them is the length of a log's torn rest.
 pub const STATE: usize = 16;
+pub const TORN: usize = 511;
 /// Floats that are lent, of which the last is a quotient; three lists that are given; costs; entries; two planes.
 pub const SCORES: usize = 512;
 pub const QUOTIENT: usize = 1023;
@@ -32,7 +34,7 @@ impl Memory {
 
     /// Words from the first place of a kind on.
     pub fn put(&mut self, at: usize, words: &[u64]) {
-        let ends = [STATE, SCORES, QUOTIENT, LISTS, COSTS, ENTRIES, FIRST, SECOND, PLACES];
+        let ends = [STATE, TORN, SCORES, QUOTIENT, LISTS, COSTS, ENTRIES, FIRST, SECOND, PLACES];
         let (room, end) = (ends.into_iter().find(|&end| end > at).unwrap(), at + words.len());
         assert!(end <= room, "words that the reader has no room for");
         if self.next[at..end] != *words {

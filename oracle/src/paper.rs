@@ -1,12 +1,14 @@
 //! The fixed list: the records of the stream as lines of text, for crates/replay to read. A line is what is given, the
 //! letter of a call, and what should stand in the memory after it. Every NaN is written as one.
 use crate::kind::Kind;
-use crate::memory::{COSTS, ENTRIES, FIRST, LIST, LISTS, Memory, QUOTIENT, SCORES, SECOND, STATE};
+use crate::memory::{COSTS, ENTRIES, FIRST, LIST, LISTS, Memory, QUOTIENT, SCORES, SECOND, STATE, TORN};
 use crate::reading::{COUNT, NUMBERS, OFFSET, ROOM};
 use crate::words::{Reader, bits};
 
 /// What a place for a quotient holds before a call: the bits of a float that no call answers.
 const BEFORE: [u64; 1] = [5];
+/// The same for the length of a log's torn rest: none is so long.
+const TORN_BEFORE: [u64; 1] = [47];
 const ENTRY: usize = 5;
 
 pub struct Paper {
@@ -36,6 +38,8 @@ impl Paper {
             Kind::Fresh => self.fresh(&mut r),
             Kind::State => self.given = Some([r.words(NUMBERS), r.reals()]),
             Kind::Step => self.step(&mut r),
+            Kind::Log => self.log(&mut r),
+            Kind::Append => self.append(&mut r),
             Kind::End | Kind::Film => (),
         }
         assert!(matches!(kind, Kind::End | Kind::Film) || r.0.is_empty());
@@ -145,6 +149,32 @@ impl Paper {
         let at = after[OFFSET] as usize * ENTRY;
         assert!(score.is_empty() || score == entries[at..at + ENTRY]);
         self.call('N', answer, &numbers, &[(STATE, &after), (SCORES, &entries)]);
+    }
+
+    /// A scan and a read of one log.
+    fn log(&mut self, r: &mut Reader) {
+        let (log, scanned, read, torn) = (r.bytes(), r.word(), r.word(), r.words(1));
+        let (numbers, bits, cuts) = (r.halves(), r.list(), r.bytes());
+        let (numbers_after, bits_after, cuts_after) = (r.halves(), r.words(bits.len()), r.bytes());
+        let torn_after = |answer: u64| if (answer as i64) < 0 { &TORN_BEFORE } else { &torn[..] };
+        let len = |list: &[u64]| list.len() as u64;
+        self.put(FIRST, &log);
+        self.put(TORN, &TORN_BEFORE);
+        self.call('L', scanned, &[len(&log)], &[(TORN, torn_after(scanned))]);
+        for (at, list) in [(TORN, &TORN_BEFORE[..]), (COSTS, &numbers), (STATE, &bits), (SECOND, &cuts)] {
+            self.put(at, list);
+        }
+        let written = [(TORN, torn_after(read)), (COSTS, &numbers_after), (STATE, &bits_after), (SECOND, &cuts_after)];
+        self.call('R', read, &[len(&log), len(&numbers), len(&bits), len(&cuts)], &written);
+    }
+
+    /// The five floats are given by their bits.
+    fn append(&mut self, r: &mut Reader) {
+        let (log, used_number, floats, cut) = (r.bytes(), r.words(2), r.words(5).into_iter().map(bits).collect(), r.words(1));
+        let (answer, after) = (r.word(), r.bytes());
+        self.put(FIRST, &log);
+        let numbers = [vec![log.len() as u64], used_number, floats, cut].concat();
+        self.call('A', answer, &numbers, &[(FIRST, &after)]);
     }
 
     /// The whole list. Its end says how many lines are above it, and their check.

@@ -10,6 +10,8 @@ pub struct Tally {
     /// Calls and measures beside these that the reading alone answers: the crate cannot be asked.
     pub read_calls: u64,
     pub read_measures: u64,
+    /// Scans, reads and appends of a log, which the crate does not have.
+    pub read_logs: u64,
     /// For each refusal: how many damaged calls the crate stopped on, ran through, or could not be given.
     pub refused: BTreeMap<u32, [u64; 3]>,
     pub different: u64,
@@ -36,8 +38,15 @@ impl Tally {
     pub fn print(&self, seed: u64) {
         eprintln!(
             "oracle: seed {seed}: the crate answered {} detector calls, {} measures, {} films; the reading alone {} calls, \
-             {} measures; {} cuts; crate and reading differ on {}",
-            self.calls, self.measures, self.films, self.read_calls, self.read_measures, self.cuts, self.different
+             {} measures, {} of the log; {} cuts; crate and reading differ on {}",
+            self.calls,
+            self.measures,
+            self.films,
+            self.read_calls,
+            self.read_measures,
+            self.read_logs,
+            self.cuts,
+            self.different
         );
         for (number, [stopped, through, not]) in &self.refused {
             eprintln!("oracle: refusal {number:2}: the crate stopped {stopped}, ran {through}, was not asked {not}");

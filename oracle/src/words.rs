@@ -16,9 +16,14 @@ impl Reader<'_> {
         front.to_vec()
     }
 
-    pub fn reals(&mut self) -> Vec<u64> {
+    /// Words with their number before them.
+    pub fn list(&mut self) -> Vec<u64> {
         let count = self.word() as usize;
-        self.words(count).into_iter().map(bits).collect()
+        self.words(count)
+    }
+
+    pub fn reals(&mut self) -> Vec<u64> {
+        self.list().into_iter().map(bits).collect()
     }
 
     /// Bytes, each as a word.

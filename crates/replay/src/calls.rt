@@ -1,9 +1,11 @@
-// The calls that the list makes, by their letters: on numbers, on lists of entries, on the detector; the others are of planes.
+// The calls that the list makes, by their letters: on numbers, on lists of entries, on the detector; the others are of planes
+// and of logs.
 use crate::desk;
 use crate::desk::get;
 use crate::desk::half;
 use crate::desk::len;
 use crate::desk::word;
+use crate::logs;
 use crate::memory;
 use crate::parts;
 use crate::planes;
@@ -116,6 +118,7 @@ pub fn replay(letter: u8, desk: &mut [u64]) -> bool {
     match letter {
         b'N' | b'F' => detect(letter, desk),
         b'P' | b'M' | b'D' | b'I' | b'B' | b'C' | b'T' => planes::replay(letter, desk),
+        b'L' | b'R' | b'A' => logs::replay(letter, desk),
         b'H' | b'G' => transform(letter, desk),
         b'S' => scale(desk),
         b'E' => end(desk),

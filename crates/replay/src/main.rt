@@ -2,6 +2,7 @@
 // what it answers and writes is compared. A list that was changed, cut short or is no list fails too.
 mod calls;
 mod desk;
+mod logs;
 mod memory;
 mod parts;
 mod planes;

@@ -6,6 +6,8 @@ use octets::float;
 // Where each kind begins, and the end. The answer that is due and the numbers that are given come first.
 pub const STATE: usize = 16;
 
+pub const TORN: usize = 511;
+
 pub const SCORES: usize = 512;
 
 pub const QUOTIENT: usize = 1023;
