@@ -1,4 +1,4 @@
--- An answer: what was asked for, or the number of document 01's refusal and nothing else.
+-- An answer: what was asked for, or a refusal's number and nothing else.
 use mathlib.Core.Bool.{cond}
 use Prim.Native.Nat.{ℕ}
 use lib.Dec.{eqb}

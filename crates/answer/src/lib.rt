@@ -1,4 +1,4 @@
-// What a measure answers: a number, or the number of document 01's refusal.
+// What a measure answers: a number, or a refusal's number.
 
 // A whole number, or the number of the refusal.
 pub enum Whole {
