@@ -89,11 +89,6 @@ static enum status take_word(struct options *options, const char *word)
     return DONE;
 }
 
-static bool is_file(const char *file, const char *other)
-{
-    return file != NULL && other != NULL && strcmp(file, other) == 0;
-}
-
 /* What the words ask for together. */
 static enum status fits_together(const struct options *options)
 {
@@ -104,8 +99,6 @@ static enum status fits_together(const struct options *options)
         return say_usage("standard mode reads its inter costs from a file: --inter FILE");
     if (!standard && options->inter != NULL)
         return say_usage("--inter goes with --mode standard alone");
-    if (is_file(options->log, options->film) || is_file(options->log, options->inter))
-        return say_usage("--log would write over a file that is read: '%s'", options->log);
     return DONE;
 }
 
