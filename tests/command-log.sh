@@ -128,10 +128,12 @@ for other in "$tiny" "$room/./tiny.y4m" "$room/hard" "$room/soft"; do
         decide "$tiny" --lookahead 1 --log "$other"
     cmp -s "$tiny" "$kept"
     verdict "a log that is the film, as ${other##"$room"/}: the film stays" $?
+    cp "$kept" "$tiny"
 done
 $RUN "$COMMAND" decide - --lookahead 1 --log "$tiny" < "$tiny" > "$room/out" 2> "$room/err"
 [ $? = 2 ] && grep -q "and this is the film" "$room/err" && cmp -s "$tiny" "$kept"
 verdict "a log that is the film on the standard input" $?
+cp "$kept" "$tiny"
 ends "a log that is the costs" 2 "and this is the file of inter costs" \
     decide "$tiny" --lookahead 1 --mode standard --inter "$costs" --log "$room/./costs"
 cmp -s "$costs" "$room/kept.costs"
@@ -142,6 +144,11 @@ verdict "a log that is the standard output" $?
 
 # Files that cannot be a log.
 ends "--log without its value" 2 "--log wants a value" decide "$flat" --log
+for other in - ''; do
+    ends "a log named '$other'" 2 "--log wants the name of a file, not '$other'" decide "$flat" --log "$other"
+    grep -q -- '--help' "$room/err"
+    verdict "a log named '$other' is a wrong command line" $?
+done
 ends "a log in a missing folder" 2 "No such file" decide "$flat" --log "$room/none/log"
 ends "a folder for a log" 2 "Is a directory" decide "$flat" --log "$room"
 ends "a device for a log" 2 "regular file" decide "$flat" --log /dev/null
