@@ -29,11 +29,21 @@ goes_on() { # LOG
     [ "$status" = 0 ] && cmp -s "$1" "$whole"
 }
 
+# What the last command said of the rest that it went over: one line, or nothing where there was none.
+told() { # REST RECORDS
+    if [ "$1" = 0 ]; then
+        [ ! -s "$room/err" ]
+    else
+        [ "$(wc -l < "$room/err")" = 1 ] &&
+            grep -Eq ": a torn rest of $1 bytes? behind $2 whole records?: the next record goes over it\$" "$room/err"
+    fi
+}
+
 failing=
 length=0
 while [ "$length" -le 235 ]; do
     head -c "$length" "$whole" > "$log"
-    goes_on "$log" || failing="$failing $length"
+    goes_on "$log" && told $((length % 47)) $((length / 47)) || failing="$failing $length"
     length=$((length + 1))
 done
 echo "lengths:$failing" > "$room/log"
@@ -102,7 +112,7 @@ for fed in 7 8 9 10; do
     verdict "killed after $fed frames: going on" $?
 done
 
-# A second command on a log that is in use: it says so, and the first goes on undisturbed. Reading is no use.
+# A second command on a log that is in use: it says so, and the first goes on undisturbed. Reading does not count as use.
 start_fed 8
 spares "a log in use" 2 "this log is in use" decide "$room/rest5.y4m" --log "$log" --first 1000
 command_run log "$log"

@@ -134,7 +134,11 @@ enum status journal_open(struct journal *journal, const char *path, uint64_t num
     enum status status = open_file(journal, film, costs);
     if (status == DONE)
         status = check(journal);
-    return status == DONE ? try_number(journal, (uint32_t)number) : status;
+    if (status == DONE)
+        status = try_number(journal, (uint32_t)number);
+    if (status == DONE)
+        say_rest(path, journal->used % BRINE_RECORD_BYTES, journal->records, ": the next record goes over it");
+    return status;
 }
 
 /* Writes all the bytes at that place of the file and has them on the card. */
