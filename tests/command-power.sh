@@ -50,6 +50,28 @@ echo "lengths:$failing" > "$room/log"
 [ -z "$failing" ]
 verdict "a log that is cut at every length" $?
 
+# Two nights in one log, and a stop in the second, as docs/FORMATS.md says: where the last number is not above the film's first, the
+# whole film is given again. The second night is the same film, from frame 10 on.
+nights=$room/nights.log
+cp "$whole" "$nights"
+command_run decide "$room/rest0.y4m" --first 10 --log "$nights"
+for length in 235 236 281 282 300 470; do
+    head -c "$length" "$nights" > "$log"
+    first=$($RUN "$COMMAND" log --csv "$log" 2> /dev/null | tail -n 1 | cut -d , -f 1)
+    [ "$first" -gt 10 ] || first=10
+    command_run decide "$room/rest$((first - 10)).y4m" --first "$first" --log "$log"
+    [ "$status" = 0 ] && [ "$(wc -c < "$log")" = 470 ] && cmp -s "$log" "$nights"
+    verdict "a log of two nights that is cut at $length" $?
+done
+
+# Standard mode goes on with its costs cut likewise: here that of frames n - 1 and n is n.
+printf '%s\n' 1 2 3 4 5 6 7 8 9 | tail -n +4 > "$costs"
+rm -f "$log"
+command_run decide "$room/rest3.y4m" --first 3 --mode standard --inter "$costs" --log "$log"
+command_run log --csv "$log"
+[ "$status" = 0 ] && [ "$(awk -F, 'NR > 1 { printf "%s:%s ", $1, $3 }' "$room/out")" = "4:4 5:5 " ]
+verdict "costs that are cut as the film is" $?
+
 # A film that breaks off in its last frame: the log has what was decided before, the standard output nothing.
 rm -f "$log"
 head -c $(($(wc -c < "$room/rest0.y4m") - 1)) "$room/rest0.y4m" > "$room/short.y4m"
