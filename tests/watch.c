@@ -1,7 +1,7 @@
-/* Calls of the command that the linker leads here (--wrap, see the Makefile). Each is made, and what it does can be told:
-     WATCH_CALLS=FILE   writes each call of pwrite, fdatasync and fsync to FILE, with the inode of the file that it is for
-     WATCH_FAULT=NAME   lets the first call that can have this fault have it: see `due`
-     WATCH_LATER=FILE   lets the first read be short, and puts the bytes of FILE over the file that is read before the second */
+/* Calls that the linker leads here instead of to libc (--wrap, in the Makefile). They are made as asked, save for:
+     WATCH_CALLS=FILE   each call of pwrite, fdatasync and fsync is written to FILE, with the inode of the file that it is for
+     WATCH_FAULT=NAME   the first call that has a fault of this name below has it
+     WATCH_LATER=FILE   the first read is short, and before the second the bytes of FILE go over the file that is read */
 #include <errno.h>
 #include <stdarg.h>
 #include <stdbool.h>
@@ -79,7 +79,7 @@ int __wrap_fsync(int file)
     return due("fsync fails") ? failed(EIO) : __real_fsync(file);
 }
 
-/* As another command would, that appends. */
+/* Stands for another command that appends. A test that cannot be set up must not pass. */
 static void put_over(int file, const char *later)
 {
     char bytes[4096];
