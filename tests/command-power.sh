@@ -72,6 +72,12 @@ command_run log --csv "$log"
 [ "$status" = 0 ] && [ "$(awk -F, 'NR > 1 { printf "%s:%s ", $1, $3 }' "$room/out")" = "4:4 5:5 " ]
 verdict "costs that are cut as the film is" $?
 
+# Without a standard output and a standard error the log must not take the place of one: messages would go into it.
+head -c $((3 * 47 + 20)) "$whole" > "$log"
+$RUN "$COMMAND" decide "$room/rest3.y4m" --first 3 --log "$log" >&- 2>&-
+[ $? = 2 ] && cmp -s "$log" "$whole"
+verdict "a log where the standard streams are closed" $?
+
 # A film that breaks off in its last frame: the log has what was decided before, the standard output nothing.
 rm -f "$log"
 head -c $(($(wc -c < "$room/rest0.y4m") - 1)) "$room/rest0.y4m" > "$room/short.y4m"
