@@ -30,11 +30,12 @@ PKGCONFIG = build/lib/pkgconfig/brinepulley.pc
 COMMAND = build/bin/brinepulley
 CHECK = build/tests/check
 FILM = build/tests/film
+WATCHED = build/tests/watched
 
 # What the archive comes from: must-fail edits are no part of it.
 CRATES = $(shell find crates crates.txt -name must-fail -prune -o -type f -print)
 TOOL_OBJECTS = $(patsubst %.c,build/%.o,$(wildcard tool/*.c))
-CHECK_OBJECTS = $(patsubst %.c,build/%.o,$(filter-out tests/film.c,$(wildcard tests/*.c)))
+CHECK_OBJECTS = $(patsubst %.c,build/%.o,$(filter-out tests/film.c tests/watch.c,$(wildcard tests/*.c)))
 
 .PHONY: all help lib install command install-command run check-c test beside bench clean compiler
 .DELETE_ON_ERROR:
@@ -87,9 +88,9 @@ install-command: command
 run: all
 	@$(RUN) $(COMMAND) demo
 
-check-c: lib $(COMMAND) $(CHECK) $(FILM)
+check-c: lib $(COMMAND) $(CHECK) $(FILM) $(WATCHED)
 	@RUN='$(RUN)' NM='$(NM)' COMPILER='$(C_COMPILER)' STATIC='$(STATIC)' \
-	    ARCHIVE='$(ARCHIVE)' COMMAND='$(COMMAND)' CHECK='$(CHECK)' FILM='$(FILM)' sh tests/run.sh
+	    ARCHIVE='$(ARCHIVE)' COMMAND='$(COMMAND)' CHECK='$(CHECK)' FILM='$(FILM)' WATCHED='$(WATCHED)' sh tests/run.sh
 
 test:
 	.ci/run
@@ -117,6 +118,11 @@ $(CHECK): $(CHECK_OBJECTS) $(ARCHIVE)
 
 $(FILM): build/tests/film.o
 	$(C_COMPILER) $(CFLAGS) $(LDFLAGS) $(STATIC) -o $@ $<
+
+# The command, with calls that tests/watch.c takes, writes down and lets fail.
+$(WATCHED): $(TOOL_OBJECTS) build/tests/watch.o $(ARCHIVE)
+	$(C_COMPILER) $(CFLAGS) $(LDFLAGS) $(STATIC) -Wl,--wrap=pwrite,--wrap=fdatasync,--wrap=fsync,--wrap=read -o $@ \
+	    $(TOOL_OBJECTS) build/tests/watch.o $(ARCHIVE)
 
 build/tool/main.o: C_FLAGS += -DBRINEPULLEY_VERSION='"$(VERSION)"'
 build/tool/main.o: Makefile

@@ -113,11 +113,42 @@ printf 'YUV4MPEG2 W16 H16\nFRAME\n' > "$bad"
 makes_none "a first frame cut short" 2 "frame 0 is cut short" decide "$bad"
 makes_none "a missing film" 2 "No such file" decide "$room/none.y4m"
 makes_none "missing costs" 2 "No such file" decide "$flat" --mode standard --inter "$room/none"
-ends "a log that is the film" 2 "a file that is read" decide "$a" --log "$a"
-ends "a log that is the costs" 2 "a file that is read" decide "$a" --mode standard --inter "$costs" --log "$costs"
+
+# A log that is a file which the command reads, or its answer, under any of its names. Each is shorter than a record, so as a
+# log it would be all rest, and be written over.
+tiny=$room/tiny.y4m
+printf 'YUV4MPEG2 W1 H1 Cmono\nFRAME\naFRAME\nbFRAME\nc' > "$tiny"
+printf '1\n2\n' > "$costs"
+cp "$tiny" "$kept"
+cp "$costs" "$room/kept.costs"
+ln "$tiny" "$room/hard"
+ln -s "$tiny" "$room/soft"
+for other in "$tiny" "$room/./tiny.y4m" "$room/hard" "$room/soft"; do
+    ends "a log that is the film, as ${other##"$room"/}" 2 "$other: a log must be a file of its own, and this is the film" \
+        decide "$tiny" --lookahead 1 --log "$other"
+    cmp -s "$tiny" "$kept"
+    verdict "a log that is the film, as ${other##"$room"/}: the film stays" $?
+    cp "$kept" "$tiny"
+done
+$RUN "$COMMAND" decide - --lookahead 1 --log "$tiny" < "$tiny" > "$room/out" 2> "$room/err"
+[ $? = 2 ] && grep -q "and this is the film" "$room/err" && cmp -s "$tiny" "$kept"
+verdict "a log that is the film on the standard input" $?
+cp "$kept" "$tiny"
+ends "a log that is the costs" 2 "and this is the file of inter costs" \
+    decide "$tiny" --lookahead 1 --mode standard --inter "$costs" --log "$room/./costs"
+cmp -s "$costs" "$room/kept.costs"
+verdict "a log that is the costs: they stay" $?
+$RUN "$COMMAND" decide "$tiny" --lookahead 1 --log "$log" > "$log" 2> "$room/err"
+[ $? = 2 ] && grep -q "and this is the standard output" "$room/err" && [ ! -s "$log" ]
+verdict "a log that is the standard output" $?
 
 # Files that cannot be a log.
 ends "--log without its value" 2 "--log wants a value" decide "$flat" --log
+for other in - ''; do
+    ends "a log named '$other'" 2 "--log wants the name of a file, not '$other'" decide "$flat" --log "$other"
+    grep -q -- '--help' "$room/err"
+    verdict "a log named '$other' is a wrong command line" $?
+done
 ends "a log in a missing folder" 2 "No such file" decide "$flat" --log "$room/none/log"
 ends "a folder for a log" 2 "Is a directory" decide "$flat" --log "$room"
 ends "a device for a log" 2 "regular file" decide "$flat" --log /dev/null

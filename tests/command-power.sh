@@ -29,16 +29,54 @@ goes_on() { # LOG
     [ "$status" = 0 ] && cmp -s "$1" "$whole"
 }
 
+# What the last command said of the rest that it went over: one line, or nothing where there was none.
+told() { # REST RECORDS
+    if [ "$1" = 0 ]; then
+        [ ! -s "$room/err" ]
+    else
+        [ "$(wc -l < "$room/err")" = 1 ] &&
+            grep -Eq ": a torn rest of $1 bytes? behind $2 whole records?: the next record goes over it\$" "$room/err"
+    fi
+}
+
 failing=
 length=0
 while [ "$length" -le 235 ]; do
     head -c "$length" "$whole" > "$log"
-    goes_on "$log" || failing="$failing $length"
+    goes_on "$log" && told $((length % 47)) $((length / 47)) || failing="$failing $length"
     length=$((length + 1))
 done
 echo "lengths:$failing" > "$room/log"
 [ -z "$failing" ]
 verdict "a log that is cut at every length" $?
+
+# Two nights in one log, and a stop in the second, as docs/FORMATS.md says: where the last number is not above the film's first, the
+# whole film is given again. The second night is the same film, from frame 10 on.
+nights=$room/nights.log
+cp "$whole" "$nights"
+command_run decide "$room/rest0.y4m" --first 10 --log "$nights"
+for length in 235 236 281 282 300 470; do
+    head -c "$length" "$nights" > "$log"
+    first=$($RUN "$COMMAND" log --csv "$log" 2> /dev/null | tail -n 1 | cut -d , -f 1)
+    [ "$first" -gt 10 ] || first=10
+    command_run decide "$room/rest$((first - 10)).y4m" --first "$first" --log "$log"
+    [ "$status" = 0 ] && [ "$(wc -c < "$log")" = 470 ] && cmp -s "$log" "$nights"
+    verdict "a log of two nights that is cut at $length" $?
+done
+
+# Standard mode goes on with its costs cut likewise: here that of frames n - 1 and n is n.
+printf '%s\n' 1 2 3 4 5 6 7 8 9 | tail -n +4 > "$costs"
+rm -f "$log"
+command_run decide "$room/rest3.y4m" --first 3 --mode standard --inter "$costs" --log "$log"
+command_run log --csv "$log"
+[ "$status" = 0 ] && [ "$(awk -F, 'NR > 1 { printf "%s:%s ", $1, $3 }' "$room/out")" = "4:4 5:5 " ]
+verdict "costs that are cut as the film is" $?
+
+# Without a standard output and a standard error the log must not take the place of one: messages would go into it.
+head -c $((3 * 47 + 20)) "$whole" > "$log"
+$RUN "$COMMAND" decide "$room/rest3.y4m" --first 3 --log "$log" >&- 2>&-
+[ $? = 2 ] && cmp -s "$log" "$whole"
+verdict "a log where the standard streams are closed" $?
 
 # A film that breaks off in its last frame: the log has what was decided before, the standard output nothing.
 rm -f "$log"
@@ -102,7 +140,7 @@ for fed in 7 8 9 10; do
     verdict "killed after $fed frames: going on" $?
 done
 
-# A second command on a log that is in use: it says so, and the first goes on undisturbed. Reading is no use.
+# A second command on a log that is in use: it says so, and the first goes on undisturbed. Reading does not count as use.
 start_fed 8
 spares "a log in use" 2 "this log is in use" decide "$room/rest5.y4m" --log "$log" --first 1000
 command_run log "$log"

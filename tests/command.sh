@@ -1,5 +1,5 @@
 #!/bin/sh
-# Tests of the command: exit statuses, messages, answers. RUN, COMMAND, FILM and COMPILER come from the Makefile.
+# Tests of the command: exit statuses, messages, answers. RUN, COMMAND, WATCHED, FILM and COMPILER come from the Makefile.
 # Its last line is 'N passed, M failed'.
 set -u
 SUITE=command
@@ -53,5 +53,6 @@ cuts_at() { # NAME WANT ARGUMENTS..
 . "$(dirname "$0")/command-answers.sh"
 . "$(dirname "$0")/command-log.sh"
 . "$(dirname "$0")/command-power.sh"
+. "$(dirname "$0")/command-calls.sh"
 
 count

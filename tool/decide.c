@@ -8,6 +8,8 @@ struct desk {
     struct report report;
     struct journal journal;
     const char *log; /* NULL: none is kept */
+    const struct film *film;
+    const struct costs *costs;
 };
 
 /* The log comes before the report, and is opened once there is a film to decide on: a film that is refused leaves none. */
@@ -17,7 +19,7 @@ static enum status desk_take(void *taker, const struct verdict *verdict)
     enum status status = DONE;
 
     if (desk->log != NULL && verdict->first)
-        status = journal_open(&desk->journal, desk->log, verdict->frame + 1);
+        status = journal_open(&desk->journal, desk->log, verdict->frame + 1, desk->film, desk->costs);
     if (desk->log != NULL && verdict->scored)
         status = journal_add(&desk->journal, verdict);
     return status == DONE ? report_take(&desk->report, verdict) : status;
@@ -26,7 +28,7 @@ static enum status desk_take(void *taker, const struct verdict *verdict)
 static enum status decide_film(const struct options *options, struct film *film)
 {
     struct costs costs = {0};
-    struct desk desk = {.journal = {.file = -1}, .log = options->log};
+    struct desk desk = {.journal = {.file = -1}, .log = options->log, .film = film, .costs = &costs};
 
     if (options->inter != NULL) {
         const enum status status = costs_open(&costs, options->inter);

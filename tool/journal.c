@@ -47,7 +47,30 @@ static enum status take_lock(const struct journal *journal)
     return fault(journal);
 }
 
-static enum status open_file(struct journal *journal)
+/* Whether `other` is open on the same file. Names do not tell: a file can have several. */
+static bool is_same(const struct stat *log, int other)
+{
+    struct stat about;
+    return fstat(other, &about) == 0 && about.st_dev == log->st_dev && about.st_ino == log->st_ino;
+}
+
+/* A record would go over what is read, and the answer over the records. */
+static enum status stands_apart(const struct journal *journal, const struct stat *log, const struct film *film,
+                                const struct costs *costs)
+{
+    const char *what = NULL;
+    if (is_same(log, fileno(film->file)))
+        what = "film";
+    else if (costs->file != NULL && is_same(log, fileno(costs->file)))
+        what = "file of inter costs";
+    else if (is_same(log, STDOUT_FILENO))
+        what = "standard output";
+    if (what == NULL)
+        return DONE;
+    return say_failed("%s: a log must be a file of its own, and this is the %s", journal->path, what);
+}
+
+static enum status open_file(struct journal *journal, const struct film *film, const struct costs *costs)
 {
     struct stat about;
 
@@ -57,7 +80,9 @@ static enum status open_file(struct journal *journal)
         return fault(journal);
     if (!S_ISREG(about.st_mode))
         return say_failed("%s: a log must be a regular file", journal->path);
-    const enum status status = take_lock(journal);
+    enum status status = stands_apart(journal, &about, film, costs);
+    if (status == DONE)
+        status = take_lock(journal);
     return status == DONE ? sync_folder(journal, about.st_size) : status;
 }
 
@@ -97,7 +122,8 @@ static enum status try_number(const struct journal *journal, uint32_t number)
     return say_refused(what, answer);
 }
 
-enum status journal_open(struct journal *journal, const char *path, uint64_t number)
+enum status journal_open(struct journal *journal, const char *path, uint64_t number, const struct film *film,
+                         const struct costs *costs)
 {
     *journal = (struct journal){.path = path, .file = -1};
     /* No call may have such a number. The step refuses it with 7 before there is anything to append. */
@@ -105,10 +131,14 @@ enum status journal_open(struct journal *journal, const char *path, uint64_t num
         return DONE;
     /* A limit on the size of files is then a fault like a full disk, and does not end the command unheard. */
     signal(SIGXFSZ, SIG_IGN);
-    enum status status = open_file(journal);
+    enum status status = open_file(journal, film, costs);
     if (status == DONE)
         status = check(journal);
-    return status == DONE ? try_number(journal, (uint32_t)number) : status;
+    if (status == DONE)
+        status = try_number(journal, (uint32_t)number);
+    if (status == DONE)
+        say_rest(path, journal->used % BRINE_RECORD_BYTES, journal->records, ": the next record goes over it");
+    return status;
 }
 
 /* Writes all the bytes at that place of the file and has them on the card. */

@@ -15,8 +15,10 @@ struct journal {
 };
 
 /* Opens the log, or makes it. It is refused, and left alone, where it is no log or where `number`, that of the first frame to
-   be decided on, cannot follow. journal_close is due whatever comes of it. */
-enum status journal_open(struct journal *journal, const char *path, uint64_t number);
+   be decided on, cannot follow. That it is the film, the costs or the standard output too is a fault. journal_close is due
+   whatever comes of it. */
+enum status journal_open(struct journal *journal, const char *path, uint64_t number, const struct film *film,
+                         const struct costs *costs);
 
 /* Appends a verdict that has a score. */
 enum status journal_add(struct journal *journal, const struct verdict *verdict);

@@ -73,9 +73,7 @@ static enum status list_file(struct listing *listing, const char *name, int file
     if (!listing->csv)
         page_add(&listing->page, "%" PRIu64 " record%s, %" PRIu64 " cut%s\n", listing->records,
                  listing->records == 1 ? "" : "s", listing->cuts, listing->cuts == 1 ? "" : "s");
-    if (listing->torn > 0)
-        fprintf(stderr, "brinepulley: %s: a torn rest of %" PRIu64 " byte%s behind %" PRIu64 " whole record%s\n", name,
-                listing->torn, listing->torn == 1 ? "" : "s", listing->records, listing->records == 1 ? "" : "s");
+    say_rest(name, listing->torn, listing->records, "");
     return page_write(&listing->page);
 }
 

@@ -1,7 +1,9 @@
 #include "commands.h"
 
+#include <fcntl.h>
 #include <stdio.h>
 #include <string.h>
+#include <unistd.h>
 
 #ifndef BRINEPULLEY_VERSION
 #define BRINEPULLEY_VERSION "unknown"
@@ -63,8 +65,20 @@ static bool asks_help(int count, char **words)
     return false;
 }
 
+/* A file that is opened takes the place of a standard stream that is closed, and what is meant for the stream would go into
+   it. So each such place is taken by a file that cannot be written. */
+static void take_places(void)
+{
+    int file = 0;
+    while (file >= 0 && file <= STDERR_FILENO)
+        file = open("/dev/null", O_RDONLY);
+    if (file >= 0)
+        close(file);
+}
+
 int main(int count, char **words)
 {
+    take_places();
     if (count < 2)
         return say_usage("which command: decide, log, measure or demo?");
     const char *command = words[1];

@@ -40,6 +40,14 @@ static enum status take_file(const char **file, const char *value)
     return DONE;
 }
 
+/* Elsewhere '-' is the standard input, to which no log can be written. */
+static enum status take_log(const char **file, const char *value)
+{
+    if (value[0] == '\0' || strcmp(value, "-") == 0)
+        return say_usage("--log wants the name of a file, not '%s'", value);
+    return take_file(file, value);
+}
+
 /* An option that has a value. */
 static enum status take_option(struct options *options, const char *name, const char *value)
 {
@@ -57,7 +65,7 @@ static enum status take_option(struct options *options, const char *name, const 
     if (strcmp(name, "--inter") == 0)
         return take_file(&options->inter, value);
     if (strcmp(name, "--log") == 0)
-        return take_file(&options->log, value);
+        return take_log(&options->log, value);
     const enum status status = take_number(name, value, &lookahead);
     if (status == DONE && (lookahead == 0 || lookahead > SIZE_MAX))
         return say_usage("--lookahead wants at least 1");
@@ -89,11 +97,6 @@ static enum status take_word(struct options *options, const char *word)
     return DONE;
 }
 
-static bool is_file(const char *file, const char *other)
-{
-    return file != NULL && other != NULL && strcmp(file, other) == 0;
-}
-
 /* What the words ask for together. */
 static enum status fits_together(const struct options *options)
 {
@@ -104,8 +107,6 @@ static enum status fits_together(const struct options *options)
         return say_usage("standard mode reads its inter costs from a file: --inter FILE");
     if (!standard && options->inter != NULL)
         return say_usage("--inter goes with --mode standard alone");
-    if (is_file(options->log, options->film) || is_file(options->log, options->inter))
-        return say_usage("--log would write over a file that is read: '%s'", options->log);
     return DONE;
 }
 

@@ -4,13 +4,27 @@
 #include <inttypes.h>
 #include <stdio.h>
 #include <string.h>
+#include <sys/stat.h>
 #include <unistd.h>
+
+/* How many bytes there are to read. While a regular file is read another command may append to it, over its rest: bytes of the
+   old rest and of the new record would look like one record. So its length is taken once, and what is a rest then stays one. */
+static uint64_t bytes_left(int file)
+{
+    struct stat about;
+    const off_t at = lseek(file, 0, SEEK_CUR);
+
+    if (at < 0 || fstat(file, &about) != 0 || !S_ISREG(about.st_mode))
+        return UINT64_MAX;
+    return about.st_size > at ? (uint64_t)(about.st_size - at) : 0;
+}
 
 void pieces_start(struct pieces *pieces, const char *name, int file)
 {
     memset(pieces, 0, sizeof *pieces);
     pieces->name = name;
     pieces->file = file;
+    pieces->left = bytes_left(file);
 }
 
 /* The last record comes first in the next piece: so the library sees that numbers rise from one piece to the next. */
@@ -27,11 +41,15 @@ static void carry_over(struct pieces *pieces)
 static enum status fill(struct pieces *pieces)
 {
     while (pieces->used < sizeof pieces->bytes && !pieces->ended) {
-        const ssize_t got = read(pieces->file, pieces->bytes + pieces->used, sizeof pieces->bytes - pieces->used);
+        const size_t room = sizeof pieces->bytes - pieces->used;
+        const size_t count = pieces->left < room ? (size_t)pieces->left : room;
+        const ssize_t got = read(pieces->file, pieces->bytes + pieces->used, count);
         if (got < 0 && errno != EINTR)
             return say_failed("%s: %s", pieces->name, strerror(errno));
+        const size_t part = got > 0 ? (size_t)got : 0;
         pieces->ended = got == 0;
-        pieces->used += got > 0 ? (size_t)got : 0;
+        pieces->used += part;
+        pieces->left -= part;
     }
     return DONE;
 }

@@ -10,7 +10,8 @@ enum { PIECE_RECORDS = 256 };
 struct pieces {
     const char *name;
     int file;
-    bool ended;      /* the file has no further byte */
+    uint64_t left;   /* bytes that are still to be read, at most */
+    bool ended;      /* there is no further byte */
     uint64_t before; /* records of the log that stand before this piece's first */
     size_t shared;   /* 1 where the first record is the last one of the piece before, else 0 */
     size_t records;  /* whole records of this piece */

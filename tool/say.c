@@ -12,8 +12,8 @@
 #define TEXT_OF(number) #number
 #define TEXT(name) TEXT_OF(name)
 
-/* Document 01's words, by number, with the header's limits; from 12 on the log's. There n is the frame's number, p the previous keyframe's, L the
-   set's length, A the lookahead offset and o the offset. */
+/* Document 01's words, by number, with the header's limits; from 12 on the log's. There n is the frame's number, p the
+   previous keyframe's, L the set's length, A the lookahead offset and o the offset. */
 static const char *const refusals[] = {
     [1] = "a side is 0 or above 8,192, or stride below width",
     [2] = "origin + (height − 1) × stride + width exceeds the samples; a transform list hasn't its own transform's length, "
@@ -69,6 +69,13 @@ enum status say_refused(const char *what, int64_t answer)
 
     fprintf(stderr, "brinepulley: %s: refused, %" PRId64 ": %s\n", what, number, words);
     return REFUSED;
+}
+
+void say_rest(const char *name, uint64_t torn, uint64_t records, const char *outcome)
+{
+    if (torn > 0)
+        fprintf(stderr, "brinepulley: %s: a torn rest of %" PRIu64 " byte%s behind %" PRIu64 " whole record%s%s\n", name, torn,
+                torn == 1 ? "" : "s", records, records == 1 ? "" : "s", outcome);
 }
 
 static bool page_grow(struct page *page, size_t more)

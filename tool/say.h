@@ -24,6 +24,9 @@ enum status say_usage(const char *format, ...) SAY_FORMAT(1, 2);
 /* Says that the library refused, with the refusal's number and words, and gives REFUSED. `answer` is the library's. */
 enum status say_refused(const char *what, int64_t answer);
 
+/* Says that a log has a torn rest, behind how many records, and what comes of it. Without a rest it says nothing. */
+void say_rest(const char *name, uint64_t torn, uint64_t records, const char *outcome);
+
 /* An answer in the making. It is kept in memory, so that a film that breaks off leaves nothing half written. */
 struct page {
     char *text;
