@@ -35,28 +35,23 @@ module _ (lent : List ℕ) (used : ℕ) where
     abbrev last : ℕ
     last = refusal 15 (ltb (length lent) (wholeLong log + recordLong))
 
-    -- a fault of the old records or of the new one
-    later : (f : ℕ) → f ≡ logFault log orElse newFault log r → (f ≡ 0 → ⊥) → f ≡ appendFault lent used r
-    unfolding appendFault
-    later f e d =
-        test-later 15 f _ (ltb (length lent) used) (le-ltb (length lent) used h)
-        (or-given f (logFault log orElse newFault log r) last e d ∙ or-group (logFault log) (newFault log r) last)
+    abbrev taken : ℕ
+    taken = logFault log orElse newFault log r
 
-    module _ (none : 0 ≡ logFault log orElse newFault log r) where
-      -- no room
+    -- where the used length is right: the old records, the new one, and last the room
+    in-order : (f : ℕ) → f ≡ taken orElse last → f ≡ appendFault lent used r
+    unfolding appendFault
+    in-order f e = test-later 15 f _ (ltb (length lent) used) (le-ltb (length lent) used h) (e ∙ or-group (logFault log) (newFault log r) last)
+
+    later : (f : ℕ) → f ≡ taken → (f ≡ 0 → ⊥) → f ≡ appendFault lent used r
+    later f e d = in-order f (or-given f taken last e d)
+
+    module _ (none : 0 ≡ taken) where
       full : length lent < wholeLong log + recordLong → 15 ≡ appendFault lent used r
-      unfolding appendFault
-      full l =
-          test-later 15 15 _ (ltb (length lent) used) (le-ltb (length lent) used h)
-          (or-later 15 (logFault log orElse newFault log r) last none (test-given 15 _ (lt-ltb (length lent) (wholeLong log + recordLong) l))
-          ∙ or-group (logFault log) (newFault log r) last)
+      full l = in-order 15 (or-later 15 taken last none (test-given 15 _ (lt-ltb (length lent) (wholeLong log + recordLong) l)))
 
       room : wholeLong log + recordLong ≤ length lent → 0 ≡ appendFault lent used r
-      unfolding appendFault
-      room l =
-          test-later 15 0 _ (ltb (length lent) used) (le-ltb (length lent) used h)
-          (or-later 0 (logFault log orElse newFault log r) last none (test-passed 15 _ (le-ltb (length lent) (wholeLong log + recordLong) l))
-          ∙ or-group (logFault log) (newFault log r) last)
+      room l = in-order 0 (or-later 0 taken last none (test-passed 15 _ (le-ltb (length lent) (wholeLong log + recordLong) l)))
 
 returns : tie.Need-returns
 unfolding appendFault

@@ -10,35 +10,27 @@ use Rattle.log.proofs.Places.{least-first, least-next}
 use Rattle.log.proofs.least_after.Statement.{statement}
 use Rattle.log.proofs.least_after.Tie as tie
 
--- src/lib.rt:48:9
 returns : tie.Need-returns
 returns c = least-first (c .before .before .args .log .now) (c .before .before .args .k) (c .if1 .taken)
 
--- src/lib.rt:50:15
 sub-at : tie.Need-sub-at
 sub-at c = search needs
 
--- src/lib.rt:50:14
 mul-at : tie.Need-mul-at
 mul-at c = search needs
 
--- src/lib.rt:50:14
 add-at : tie.Need-add-at
 add-at c = search needs
 
--- src/lib.rt:51:9
 u32-at-requires : tie.Need-u32-at-requires
 u32-at-requires c κs = search needs
 
--- src/lib.rt:52:5
 cast-result : tie.Need-cast-result
 cast-result c = search needs
 
--- src/lib.rt:52:5
 add-result : tie.Need-add-result
 add-result c = search needs
 
--- src/lib.rt:43:1
 returns-2 : tie.Need-returns-2
 returns-2 c =
     let a = c .before .before .before .args in
