@@ -7,3 +7,5 @@ pub mod Reach
 pub mod Left
 pub mod Account
 pub mod Unique
+pub mod Histories
+pub mod Contracts

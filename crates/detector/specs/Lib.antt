@@ -2,4 +2,5 @@ pub mod Rules
 pub mod Step
 pub mod Fresh
 pub mod Runs
+pub mod Histories
 pub mod Needs

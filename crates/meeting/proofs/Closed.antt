@@ -1,4 +1,4 @@
--- Scoring a pair turns the closed form of a history into that of the history with this pair, and the first entries of the closed form
+-- Scoring a pair turns the closed form of the pairs before it into that of these and the pair, and the first entries of the closed form
 -- depend on the newest pairs alone. No law of floats is used.
 -- Assumes nothing.
 use mathlib.Core.Path.{_≡_, refl, sym, ap}
@@ -17,7 +17,7 @@ use Rattle.score.specs.Deque.{trimmedTo}
 use Rattle.score.specs.Scores.{zeroF, forwardOf, withForward, updatedFrom, updatedOf, scoreOf}
 use Rattle.score.proofs.Walk.{backward-walk}
 use Rattle.score.proofs.Update.{update-take}
-use Rattle.meeting.proofs.History.{span, Item, cost, history, forwardFrom, entryOf, closedEntriesOf}
+use Rattle.meeting.proofs.ClosedForm.{span, Item, cost, forwardFrom, entryOf, closedEntriesOf}
 
 abbrev inter : ScenecutResult → Float
 inter e = e .«inter_cost»
@@ -122,21 +122,3 @@ trim most l h = by (ltb most (length l)) refl
         let n : length l - 1 ≡ most = omega (arith, ltb-true most (length l) e) in
         rw n
     by false e = sym (take-all most l (ltb-false most (length l) e))
-
--- ---- histories of one film
-
-module _ (pairs : ℕ → Measure) where
-  pub history-long : (a k : ℕ) → length (history pairs a k) ≡ k
-  unfolding history
-  history-long a zero = refl
-  history-long a (suc k) = ap suc (history-long a k)
-
-  -- two histories that end at one pair agree as far as the shorter goes
-  pub histories-meet : (n a k b j : ℕ) → a + k ≡ b + j → n ≤ k → n ≤ j → take n (history pairs a k) ≡ take n (history pairs b j)
-  unfolding history
-  histories-meet zero a k b j e hk hj = refl
-  histories-meet (suc n) a zero b j e hk hj = absurd (omega arith)
-  histories-meet (suc n) a (suc k) b zero e hk hj = absurd (omega arith)
-  histories-meet (suc n) a (suc k) b (suc j) e hk hj =
-      let s : a + k ≡ b + j = omega arith in
-      rw s (ap (λ (r : List Item). record { pair = b + j; measure = pairs (b + j) } ∷ r) (histories-meet n a k b j s (omega arith) (omega arith)))

@@ -1,8 +1,8 @@
-pub mod FilmLaws
-pub mod Lists
-pub mod History
+pub mod Alls
+pub mod ClosedForm
 pub mod Closed
+pub mod AsRead
 pub mod Settle
+pub mod Newest
 pub mod Takes
 pub mod Meets
-pub mod Witnesses

@@ -1,37 +1,44 @@
--- Demand 3. Each run's deque is the first ten entries of its history's closed form; these depend on the newest fifteen pairs alone, ten in Fast
--- mode, and both runs have scored those. The statements stand in specs/Meeting.antt.
+-- Demand 3. Each deque is the first ten entries of the closed form of what its calls scored; these depend on the newest fifteen pairs alone,
+-- ten in Fast mode, and both detectors have scored those. The statements stand in specs/Meeting.antt.
 -- Assumes nothing.
-use mathlib.Core.Path.{_≡_, sym, subst, _∙_, ap}
+use mathlib.Core.Path.{_≡_, refl, sym, _∙_, ap}
 use mathlib.Core.Bool.{Bool, true, false}
-use mathlib.Core.List.{[]}
+use mathlib.Core.List.{List, [], _∷_, _++_, map, nil≢cons, head-eq-of-cons-eq, tail-eq-of-cons-eq}
 use Prim.Native.Nat.{ℕ, zero, suc, _+_, _-_, _≤_, _<_}
 use native.Mathlib.Omega.{arith}
-use lib.ListN.{take}
+use borrow.Author.Tests.{eqb-true}
+use lib.Dec.{eqb}
+use lib.ListN.{length, take, drop, take-append-drop}
+use lib.Seq.{take-take}
 use Rattle.settings.specs.declared.Settings.{Settings}
-use Rattle.settings.specs.Settings.{isFast, fastThreshold}
+use Rattle.settings.specs.Settings.{normalLookahead, isNone, isFast, fastThreshold}
+use Rattle.score.specs.declared.ScenecutResult.{ScenecutResult}
 use Rattle.state.specs.State.{View, Call, view}
-use Rattle.state.specs.declared.State.{State}
+use Rattle.state.specs.Refusals.{stepFault}
+use Rattle.state.proofs.Tests.{and-both}
 use Rattle.state.proofs.Fine.{fine}
-use Rattle.state.proofs.Tests.{positive}
-use Rattle.detector.specs.declared.Stepped.{Stepped}
 use Rattle.detector.specs.Fresh.{freshView}
-use Rattle.detector.specs.Step.{Outcome, isRefused, stepAnswer, outcome, stepOf}
-use Rattle.detector.specs.Runs.{stateAfter, compared, runOf}
-use Rattle.detector.proofs.Views.{alike}
-use Rattle.detector.proofs.Account.{after-blind, code-after}
-use Rattle.meeting.specs.Films.{Film, callAt, callsFrom, listedCalls, runFrom}
-use Rattle.meeting.specs.Meeting.{Suits, Accepted, FullSets, callsToMeet, Meeting, SameAnswers, Acceptance, Demand3}
-use Rattle.meeting.proofs.History.{span, keeps, history, closedEntriesOf, closedDeque, closedState}
-use Rattle.meeting.proofs.FilmLaws.{accepted-at}
-use Rattle.meeting.proofs.Lists.{listed}
-use Rattle.meeting.proofs.Closed.{pairsNeeded, local, histories-meet}
-use Rattle.meeting.proofs.Settle.{run-closed}
-use Rattle.meeting.proofs.Takes.{takes}
+use Rattle.detector.specs.Step.{stepOf}
+use Rattle.detector.specs.Runs.{stateAfter, allAccepted, compared}
+use Rattle.detector.specs.Histories.{Detector, Made, Follows, keptAfter, callsIn, acceptedIn, repliesIn, History, byValue}
+use Rattle.detector.proofs.Cases.{leaves}
+use Rattle.detector.proofs.Left.{settings-kept}
+use Rattle.detector.proofs.Reach.{fresh-passes}
+use Rattle.detector.proofs.Account.{accepted-parts, settings-after}
+use Rattle.detector.proofs.Histories.{Shows, sound-after, history-leaves, value-shows}
+use Rattle.meeting.specs.Meeting.{asRead, itemIn, Agree, All, callsToMeet, fullSet, FullSets, Restart, Meeting, StayMet, Acceptance, Demand3, SameState}
+use Rattle.meeting.proofs.Alls.{all-parts, all-so}
+use Rattle.meeting.proofs.ClosedForm.{span, keeps, Item, itemAt, firstItems, scoredThen, lastCall, closedEntriesOf, closedDeque, stateWith}
+use Rattle.meeting.proofs.Closed.{pairsNeeded, local}
+use Rattle.meeting.proofs.AsRead.{same-item, same-scored, same-last, same-step}
+use Rattle.meeting.proofs.Settle.{calls-closed}
+use Rattle.meeting.proofs.Newest.{scored-parts, scored-front, scored-long, take-behind, InTurn, in-turn, newest-same}
+use Rattle.meeting.proofs.Takes.{Behind, takes}
 
 -- ---- 1. the states meet
 
 -- after so many calls the pairs that ten entries depend on are scored
-enough : (fast : Bool) (j : ℕ) → callsToMeet fast ≤ suc j → pairsNeeded fast keeps ≤ suc (span + j)
+enough : (fast : Bool) (j : ℕ) → callsToMeet fast ≤ suc j → pairsNeeded fast keeps ≤ j + suc span
 enough true j h = omega arith
 enough false j h = omega arith
 
@@ -39,81 +46,170 @@ some-calls : (fast : Bool) → callsToMeet fast ≤ 0 → ⊥
 some-calls true h = omega arith
 some-calls false h = omega arith
 
-module _ (f : Film) (g : Settings) where
-  pub closed-deques-meet : (a d j : ℕ) → callsToMeet (isFast g) ≤ suc j → closedDeque f g a (d + j) ≡ closedDeque f g (a + d) j
-  closed-deques-meet a d j h =
-      let fast = isFast g in
-      let level = fastThreshold g in
-      let m = pairsNeeded fast keeps in
-      let k : m ≤ suc (span + j) = enough fast j h in
-      let x = history (f .pairs) a (suc (span + (d + j))) in
-      let y = history (f .pairs) (a + d) (suc (span + j)) in
-      let e : take m x ≡ take m y = histories-meet (f .pairs) m a (suc (span + (d + j))) (a + d) (suc (span + j)) (omega arith) (omega arith) k in
-      let same : pairsNeeded fast keeps ≤ m = omega arith in
-      sym (local level fast keeps m [] x same)
-      ∙ ap (λ l. take keeps (closedEntriesOf fast level [] l)) e
-      ∙ local level fast keeps m [] y same
+-- deques whose newest pairs are the same are the same
+same-deque : (g : Settings) (x y : List Item) → let m = pairsNeeded (isFast g) keeps in take m x ≡ take m y → closedDeque g x ≡ closedDeque g y
+same-deque g x y e =
+    let fast = isFast g in
+    let level = fastThreshold g in
+    let m = pairsNeeded fast keeps in
+    let all : pairsNeeded fast keeps ≤ m = omega arith in
+    sym (local level fast keeps m [] x all) ∙ ap (λ (l : List Item). take keeps (closedEntriesOf fast level [] l)) e ∙ local level fast keeps m [] y all
 
-  pub closed-meet : (a d j : ℕ) → callsToMeet (isFast g) ≤ suc j → closedState f g a (d + j) ≡ closedState f g (a + d) j
-  closed-meet a d j h =
-      let e : a + (d + j) ≡ a + d + j = omega arith in
-      rw (e, closed-deques-meet a d j h)
+last-parts : (x : Call) (xs : List Call) (y : Call) (ys : List Call) → lastCall x (xs ++ (y ∷ ys)) ≡ lastCall y ys
+last-parts x [] y ys = refl
+last-parts x (c ∷ xs) y ys = last-parts c xs y ys
 
-  meets : Suits g → (a d j : ℕ) → callsToMeet (isFast g) ≤ j → Accepted f g a (d + j) → FullSets f a (d + j) → Accepted f g (a + d) j
-      → compared (runFrom f g a (d + j)) ≡ compared (runFrom f g (a + d) j)
-  meets suits a d zero h t full u = absurd (some-calls (isFast g) h)
-  meets suits a d (suc j) h t full u =
-      let e : d + suc j ≡ suc (d + j) = omega arith in
-      rw e (run-closed f g suits a (d + j) (rw e at t) (λ n h l. full n h (omega arith)))
-      ∙ closed-meet a d j h
-      ∙ sym (run-closed f g suits (a + d) j u (λ n h l. full n (omega arith) (omega arith)))
+turn-parts : (x : Call) (xs : List Call) (y : Call) (ys : List Call) → InTurn x (xs ++ (y ∷ ys)) → InTurn x xs × (y .number ≡ suc (lastCall x xs .number))
+turn-parts x [] y ys t = (tt, t .0)
+turn-parts x (c ∷ xs) y ys t =
+    let r = turn-parts c xs y ys (t .1) in
+    ((t .0, r .0), r .1)
 
-pub meeting : Meeting
-meeting f g a s j r k =
-    let e : a + (s - a) ≡ s = omega (arith, r .later) in
-    subst (λ (n : ℕ). Accepted f g n j → compared (runFrom f g a (s - a + j)) ≡ compared (runFrom f g n j)) e
-    (meets f g (r .suits) a (s - a) j k (r .accepted) (r .full))
+-- the old one's calls x, xs, y, ys, and the fresh one's z, zs, which begins as the old one comes to y
+module _ (g : Settings) (x y z : Call) (xs ys zs : List Call) (first : asRead g y ≡ asRead g z) (further : map (asRead g) ys ≡ map (asRead g) zs) where
+  abbrev oldPairs : List Item
+  oldPairs = scoredThen g (firstItems g x (suc span)) (xs ++ (y ∷ ys))
 
--- ---- 2. and every later answer is the same
+  abbrev newPairs : List Item
+  newPairs = scoredThen g (firstItems g z (suc span)) zs
 
-pub same-answers : SameAnswers
-same-answers = after-blind
+  pairs-meet : InTurn x (xs ++ (y ∷ ys)) → All (λ (c : Call). Agree g c z) (x ∷ xs) → FullSets (x ∷ xs) → fullSet ≤ z .setLength
+      → callsToMeet (isFast g) ≤ length (z ∷ zs)
+      → let m = pairsNeeded (isFast g) keeps in take m oldPairs ≡ take m newPairs
+  unfolding scoredThen firstItems
+  pairs-meet t agree full size h =
+      let m = pairsNeeded (isFast g) keeps in
+      let past = scoredThen g (firstItems g x (suc span)) xs in
+      let front = scoredThen g [] zs in
+      let p = turn-parts x xs y ys t in
+      let next : z .number ≡ suc (lastCall x xs .number) = ap (λ (c : Call). c .number) (sym first) ∙ p .1 in
+      let five : take span past ≡ firstItems g z span = newest-same g z x xs (p .0) agree full size next in
+      let six : take (suc span) (itemAt g y span ∷ past) ≡ take (suc span) (firstItems g z (suc span))
+      = rw (same-item g y z span first, five) in
+      let long : m ≤ length front + suc span = omega (arith, scored-long g [] zs, enough (isFast g) (length zs) h) in
+      let old : oldPairs ≡ front ++ (itemAt g y span ∷ past)
+      = scored-parts g (firstItems g x (suc span)) xs (y ∷ ys)
+      ∙ scored-front g (itemAt g y span ∷ past) ys
+      ∙ ap (λ (l : List Item). l ++ (itemAt g y span ∷ past)) (same-scored g [] ys zs further) in
+      let new : newPairs ≡ front ++ firstItems g z (suc span) = scored-front g (firstItems g z (suc span)) zs in
+      ap (take m) old ∙ take-behind m (suc span) front (itemAt g y span ∷ past) (firstItems g z (suc span)) long six ∙ sym (ap (take m) new)
 
--- so for the code, whose contract says that `outcome r` is `stepOf` of the state's view
-pub code-answers : (s t : State) (c : Call) (r q : Stepped) → outcome r ≡ stepOf (view s) c → outcome q ≡ stepOf (view t) c
-    → compared (view s) ≡ compared (view t)
-    → (stepAnswer (r .answer) ≡ stepAnswer (q .answer)) × (compared (view (r .state)) ≡ compared (view (q .state)))
-code-answers s t c r q p u e =
-    let x = alike (view s) (view t) c e in (
-      ap (λ (o : Outcome). o .answer) p ∙ x .0 ∙ sym (ap (λ (o : Outcome). o .answer) u),
-      ap (λ (o : Outcome). compared (o .state)) p ∙ x .1 ∙ sym (ap (λ (o : Outcome). compared (o .state)) u),
-    )
+  states-meet : isNone g ≡ false → normalLookahead ≤ g .«lookahead_distance»
+      → (old : List Call) → old ≡ xs ++ (y ∷ ys)
+      → allAccepted (freshView g) (x ∷ old) ≡ true → allAccepted (freshView g) (z ∷ zs) ≡ true
+      → All (λ (c : Call). Agree g c z) (x ∷ old) → FullSets (x ∷ old) → FullSets (z ∷ zs) → callsToMeet (isFast g) ≤ length (z ∷ zs)
+      → compared (stateAfter (freshView g) (x ∷ old)) ≡ compared (stateAfter (freshView g) (z ∷ zs))
+  unfolding allAccepted
+  states-meet mode ahead old split t u agree full sizes h =
+      let accepted = rw split at t in
+      let begins = and-both (eqb (stepFault (freshView g) x) 0) _ accepted in
+      let fault = eqb-true _ _ (begins .0) in
+      let turn = in-turn (stepOf (freshView g) x .state) x (xs ++ (y ∷ ys)) (leaves (freshView g) x fault .number) (fine (freshView g) x fault .begun) (begins .1) in
+      let before = all-parts (λ (c : Call). Agree g c z) (x ∷ xs) (y ∷ ys) (rw split at agree) .0 in
+      let size = all-parts (λ (c : Call). fullSet ≤ c .setLength) (x ∷ xs) (y ∷ ys) (rw split at full) .0 in
+      let deques : closedDeque g oldPairs ≡ closedDeque g newPairs = same-deque g oldPairs newPairs (pairs-meet turn before size (sizes .0) h) in
+      let calls : asRead g (lastCall x (xs ++ (y ∷ ys))) ≡ asRead g (lastCall z zs)
+      = ap (asRead g) (last-parts x xs y ys) ∙ same-last g y z ys zs first further in
+      rw split (calls-closed g mode ahead x (xs ++ (y ∷ ys)) accepted (rw split at full))
+      ∙ ap (stateWith g (lastCall x (xs ++ (y ∷ ys)))) deques
+      ∙ ap (λ (c : Call). stateWith g c (closedDeque g newPairs)) calls
+      ∙ sym (calls-closed g mode ahead z zs u sizes)
 
--- and the code's run over a film's lists, from a fresh state on, leaves the state of a run: its contract says that `outcome r` is `runOf`
--- of the calls that it makes of them, and the lists have the k pairs that the calls read
-pub code-run : (f : Film) (g : Settings) (a j k : ℕ) (before r : Stepped) → outcome r ≡ runOf (outcome before) (listedCalls f a j k)
-    → ((i : ℕ) → i < j → i + (f .lengths (a + i) - 1) ≤ k)
-    → view (before .state) ≡ freshView g → isRefused (stepAnswer (before .answer)) ≡ false → Accepted f g a j
-    → view (r .state) ≡ runFrom f g a j
-code-run f g a j k before r e reaches fresh h t =
-    let cs = callsFrom f a j in
-    code-after before r cs (e ∙ ap (runOf (outcome before)) (listed f a j k reaches)) h (rw fresh t) ∙ ap (λ (s : View). stateAfter s cs) fresh
+-- of any accepted calls
+pub calls-meet : (g : Settings) (d : ℕ) (old new : List Call) → Restart g d old new
+    → allAccepted (freshView g) old ≡ true → allAccepted (freshView g) new ≡ true
+    → compared (stateAfter (freshView g) old) ≡ compared (stateAfter (freshView g) new)
+calls-meet g zero old new r t u = absurd (omega (arith, r .later))
+calls-meet g (suc d) old [] r t u = absurd (some-calls (isFast g) (r .enough))
+calls-meet g (suc d) [] (z ∷ zs) r t u = absurd (nil≢cons (r .same))
+calls-meet g (suc d) (x ∷ old) (z ∷ zs) r t u = by (drop d old) refl
+  where
+    agree : All (λ (c : Call). Agree g c z) (x ∷ old)
+    agree =
+        all-so (λ (c : Call). All (Agree g c) ((x ∷ old) ++ (z ∷ zs))) (λ (c : Call). Agree g c z)
+        (λ c a. all-parts (Agree g c) (x ∷ old) (z ∷ zs) a .1 .0) (x ∷ old)
+        (all-parts (λ (c : Call). All (Agree g c) ((x ∷ old) ++ (z ∷ zs))) (x ∷ old) (z ∷ zs) (r .measured) .0)
 
--- ---- 3. the fresh run's calls are accepted
+    by : (after : List Call) → drop d old ≡ after → compared (stateAfter (freshView g) (x ∷ old)) ≡ compared (stateAfter (freshView g) (z ∷ zs))
+    by [] e = absurd (nil≢cons (sym (ap (map (asRead g)) e) ∙ r .same))
+    by (y ∷ ys) e =
+        let same = sym (ap (map (asRead g)) e) ∙ r .same in
+        let split : old ≡ take d old ++ (y ∷ ys) = sym (take-append-drop d old) ∙ ap (λ (l : List Call). take d old ++ l) e in
+        let sizes = all-parts (λ (c : Call). fullSet ≤ c .setLength) (x ∷ old) (z ∷ zs) (r .full) in
+        states-meet g x y z (take d old) ys zs (head-eq-of-cons-eq same) (tail-eq-of-cons-eq same) (r .mode) (r .lookahead) old split t u agree
+        (sizes .0) (sizes .1) (r .enough)
 
-pub acceptance : Acceptance
-acceptance f g a s j r =
-    let e : a + (s - a) ≡ s = omega (arith, r .later) in
-    rw e at (takes f g a (s - a) j (r .accepted) (r .full) j (omega arith))
+-- ---- of any detector that runs
 
--- a run of one call or more begins at 1 or later
-pub begins : (f : Film) (g : Settings) (a j : ℕ) → Accepted f g a (suc j) → 1 ≤ a
-begins f g a j t =
-    let n = fine (runFrom f g a 0) (callAt f (a + 0)) (accepted-at f g a 0 (suc j) (omega arith) t) .begun in
-    omega (arith, positive (a + 0) n)
+module _ (D : Detector) (S : Shows D) where
+  -- a history leaves what its accepted calls leave of a fresh detector
+  left : (g : Settings) (h : History D g)
+      → (S .seen (keptAfter D (h .begun) (h .made)) ≡ stateAfter (freshView g) (acceptedIn D (h .made)))
+      × (allAccepted (freshView g) (acceptedIn D (h .made)) ≡ true)
+  left g h =
+      let b = S .begins g (h .begun) (h .fresh) in
+      rw (b .1) at (history-leaves D S (h .begun) (h .made) (b .0) (h .follows))
 
--- ---- 4. all in one
+  sound : (g : Settings) (h : History D g) → S .Sound (keptAfter D (h .begun) (h .made))
+  sound g h = sound-after D S (h .begun) (h .made) (S .begins g (h .begun) (h .fresh) .0) (h .follows)
 
-pub demand3 : Demand3
-demand3 f g a s j r k cs =
-    same-answers (runFrom f g a (s - a + j)) (runFrom f g s j) cs (meeting f g a s j r k (acceptance f g a s j r))
+  settled : (g : Settings) (h : History D g) → S .seen (keptAfter D (h .begun) (h .made)) .settings ≡ g
+  settled g h = ap (λ (s : View). s .settings) (left g h .0) ∙ settings-after (freshView g) (acceptedIn D (h .made))
+
+  met : (g : Settings) (d : ℕ) (old new : History D g) → Restart g d (acceptedIn D (old .made)) (acceptedIn D (new .made))
+      → compared (S .seen (keptAfter D (old .begun) (old .made))) ≡ compared (S .seen (keptAfter D (new .begun) (new .made)))
+  met g d old new r =
+      ap compared (left g old .0)
+      ∙ calls-meet g d (acceptedIn D (old .made)) (acceptedIn D (new .made)) r (left g old .1) (left g new .1)
+      ∙ sym (ap compared (left g new .0))
+
+  -- 2. and every later reply is the same
+  stay : (g : Settings) (k l : D .Kept) (us vs : List (Made D)) → S .Sound k → S .Sound l → S .seen k .settings ≡ g → S .seen l .settings ≡ g
+      → compared (S .seen k) ≡ compared (S .seen l) → Follows D k us → Follows D l vs → map (asRead g) (callsIn D us) ≡ map (asRead g) (callsIn D vs)
+      → (repliesIn D us ≡ repliesIn D vs) × (compared (S .seen (keptAfter D k us)) ≡ compared (S .seen (keptAfter D l vs)))
+  stay g k l [] [] p q x y e f h same = (refl, e)
+  stay g k l [] (v ∷ vs) p q x y e f h same = absurd (nil≢cons same)
+  stay g k l (u ∷ us) [] p q x y e f h same = absurd (nil≢cons (sym same))
+  stay g k l (u ∷ us) (v ∷ vs) p q x y e f h same =
+      let both = same-step g (S .seen k) (S .seen l) (u .call) (v .call) x y e (head-eq-of-cons-eq same) in
+      let one = S .steps k (u .after) (u .call) (u .reply) p (f .0) in
+      let two = S .steps l (v .after) (v .call) (v .reply) q (h .0) in
+      let reply = S .replies k (u .after) l (v .after) (u .call) (v .call) (u .reply) (v .reply) p q (f .0) (h .0) (both .0) in
+      let rest = stay g (u .after) (v .after) us vs (S .stays k (u .after) (u .call) (u .reply) p (f .0)) (S .stays l (v .after) (v .call) (v .reply) q (h .0))
+      (ap (λ (s : View). s .settings) one ∙ settings-kept (S .seen k) (u .call) ∙ x)
+      (ap (λ (s : View). s .settings) two ∙ settings-kept (S .seen l) (v .call) ∙ y)
+      (ap compared one ∙ both .1 ∙ sym (ap compared two)) (f .1) (h .1) (tail-eq-of-cons-eq same) in
+      (rw (reply, rest .0), rest .1)
+
+  -- 3. the fresh one accepts the old one's calls
+  accepts-all : Acceptance D
+  accepts-all g d old new full same =
+      let b = S .begins g (new .begun) (new .fresh) in
+      let cs = acceptedIn D (old .made) in
+      let split : take d cs ++ drop d cs ≡ cs = take-append-drop d cs in
+      let parts = accepted-parts (freshView g) (take d cs) (drop d cs) (rw split (left g old .1)) in
+      let sizes = all-parts (λ (c : Call). fullSet ≤ c .setLength) (take d cs) (drop d cs) (rw split full) .1 in
+      let behind : Behind g (stateAfter (freshView g) (take d cs)) (S .seen (new .begun)) = rw (b .1) (record {
+        settings = settings-after (freshView g) (take d cs);
+        also = refl;
+        passes = fresh-passes g (b .2);
+        number = λ h. absurd (h refl);
+        size = λ h. absurd (h refl);
+      }) in
+      takes D S g (stateAfter (freshView g) (take d cs)) (new .begun) (drop d cs) (new .made) behind (parts .1) sizes (b .0) (new .follows) same
+
+  -- all three, where states that show the same but for the two numbers are alike
+  pub demand3 : (Alike : D .Kept → D .Kept → Type 0)
+      → ((k l : D .Kept) → S .Sound k → S .Sound l → compared (S .seen k) ≡ compared (S .seen l) → Alike k l) → Demand3 D Alike
+  demand3 Alike alike = record {
+    meeting = λ g d old new r. alike _ _ (sound g old) (sound g new) (met g d old new r);
+    stayMet = λ g d old new r us vs f h same.
+      let w = stay g _ _ us vs (sound g old) (sound g new) (settled g old) (settled g new) (met g d old new r) f h same in
+      (w .0, alike _ _ (sound-after D S _ us (sound g old) f) (sound-after D S _ vs (sound g new) h) (w .1));
+    acceptance = accepts-all;
+  }
+
+-- ---- the detector whose state is handed on by value
+
+pub value-demand3 : Demand3 byValue SameState
+value-demand3 = demand3 byValue value-shows SameState (λ s t p q e. e)

@@ -1,170 +1,125 @@
--- The state of a run in closed form: rules 4, 5 and 7 keep the first ten entries of its history, call by call.
+-- The state after accepted calls in closed form: rules 4, 5 and 7 keep the first ten entries of the pairs that were scored, call by call.
 -- Assumes nothing.
 use mathlib.Core.Path.{_≡_, refl, sym, _∙_, ap}
-use mathlib.Core.Bool.{Bool, true, false, cond}
+use mathlib.Core.Bool.{Bool, true, false}
 use mathlib.Core.List.{List, [], _∷_}
-use Prim.Native.Nat.{ℕ, zero, suc, _+_, _-_, _≤_, _<_}
-use native.Mathlib.Nat.{add-zero}
+use Prim.Native.Nat.{ℕ, zero, suc, _+_, _≤_, _<_}
 use native.Mathlib.Omega.{arith}
-use lib.Dec.{ltb, leb}
+use lib.Dec.{eqb, ltb, leb}
 use lib.ListN.{length, take, length-take}
 use lib.Seq.{take-take}
-use lib.Ieee.{Float, nan}
-use borrow.Author.Tests.{lt-ltb, le-leb, ne-eqb}
-use Rattle.sums.proofs.TableLaws.{table-at}
+use lib.Ieee.{Float}
+use borrow.Author.Tests.{lt-ltb, le-leb, ne-eqb, eqb-true}
 use Rattle.settings.specs.declared.Settings.{Settings}
-use Rattle.settings.specs.Settings.{normalLookahead, lookaheadOffset, isFast, fastThreshold}
+use Rattle.settings.specs.Settings.{normalLookahead, lookaheadOffset, isNone, isFast, fastThreshold}
 use Rattle.score.specs.declared.ScenecutResult.{ScenecutResult}
-use Rattle.score.specs.declared.Measure.{Measure}
-use Rattle.score.specs.Scores.{zeroF, scoreOf}
-use Rattle.state.specs.State.{View}
+use Rattle.score.specs.Scores.{scoreOf}
+use Rattle.state.specs.State.{View, Call}
 use Rattle.state.specs.Refusals.{stepFault}
+use Rattle.state.proofs.Tests.{and-both}
 use Rattle.detector.specs.Rules.{Turn, itemsOf, rule4, rule5}
-use Rattle.detector.specs.Step.{itemOf, progressOf, stepOf}
-use Rattle.detector.specs.Runs.{compared}
+use Rattle.detector.specs.Step.{progressOf, stepOf}
+use Rattle.detector.specs.Runs.{compared, stateAfter, allAccepted}
 use Rattle.detector.specs.Fresh.{freshView}
 use Rattle.detector.proofs.Cases.{step-scored}
 use Rattle.detector.proofs.Views.{fault-blind, step-blind}
-use Rattle.meeting.specs.Films.{Film, callAt, runFrom}
-use Rattle.meeting.specs.Meeting.{Suits, fullSet, Accepted, FullSets}
-use Rattle.meeting.proofs.History.{span, keeps, Item, history, closedEntriesOf, closedState}
-use Rattle.meeting.proofs.FilmLaws.{run-none, run-next, accepted-next}
-use Rattle.meeting.proofs.Closed.{score-entries, score-take, entries-long, trim, history-long}
+use Rattle.meeting.specs.Meeting.{itemIn, fullSet, FullSets}
+use Rattle.meeting.proofs.ClosedForm.{span, keeps, Item, itemAt, firstItems, scoredThen, lastCall, closedEntriesOf, closedDeque, stateWith}
+use Rattle.meeting.proofs.Closed.{score-entries, score-take, entries-long, trim}
 
--- what a mode reads of a pair
-abbrev seenOf : Bool → Measure → Measure
-seenOf fast m = record { inter = m .inter; importance = cond fast zeroF (m .importance); threshold = cond fast zeroF (m .threshold) }
+pub first-long : (g : Settings) (c : Call) (k : ℕ) → length (firstItems g c k) ≡ k
+unfolding firstItems
+first-long g c zero = refl
+first-long g c (suc k) = ap suc (first-long g c k)
 
-score-seen : (fast : Bool) (level : Float) (o pair : ℕ) (m : Measure) (l : List ScenecutResult)
-    → scoreOf fast level o pair (seenOf fast m) l ≡ scoreOf fast level o pair m l
-score-seen true level o pair m l = refl
-score-seen false level o pair m l = refl
-
-module _ (f : Film) (g : Settings) (suits : Suits g) where
+module _ (g : Settings) (mode : isNone g ≡ false) (lookahead : normalLookahead ≤ g .«lookahead_distance») where
   abbrev fast : Bool
   fast = isFast g
 
   abbrev level : Float
   level = fastThreshold g
 
+  abbrev entriesOf : List Item → List ScenecutResult
+  entriesOf past = closedEntriesOf fast level [] past
+
   ahead : leb normalLookahead (g .«lookahead_distance») ≡ true
-  ahead = le-leb normalLookahead (g .«lookahead_distance») (suits .lookahead)
+  ahead = le-leb normalLookahead (g .«lookahead_distance») lookahead
 
   offset : lookaheadOffset g ≡ span
   offset = rw ahead
 
-  abbrev item : (n : ℕ) → Item
-  item n = record { pair = n; measure = f .pairs n }
-
-  -- item k of call n is pair n + k
-  see : (s : View) (n k : ℕ) → s .settings ≡ g → k < f .lengths n - 1 → itemOf s (callAt f n) k ≡ seenOf fast (f .pairs (n + k))
-  see s n k e h =
-      rw (
-        e,
-        table-at nan (f .lengths n - 1) (λ (i : ℕ). f .pairs (n + i) .inter) k h,
-        table-at nan (f .lengths n - 1) (λ (i : ℕ). f .pairs (n + i) .importance) k h,
-        table-at nan (f .lengths n - 1) (λ (i : ℕ). f .pairs (n + i) .threshold) k h,
-      )
-
-  -- scoring pair n on the entries of a history
-  scored : (n : ℕ) (h : List Item) → scoreOf fast level span n (seenOf fast (f .pairs n)) (closedEntriesOf fast level [] h) ≡ closedEntriesOf fast level [] (item n ∷ h)
-  scored n h = score-seen fast level span n (f .pairs n) (closedEntriesOf fast level [] h) ∙ score-entries level fast (item n) h
-
   -- rule 4's first half
-  items : (n k : ℕ) → k ≤ f .lengths n - 1
-      → itemsOf fast level span n (itemOf (freshView g) (callAt f n)) k [] ≡ closedEntriesOf fast level [] (history (f .pairs) n k)
-  unfolding history
-  items n zero h = refl
-  items n (suc k) h =
-      rw (see (freshView g) n k refl (omega arith), items n k (omega arith)) (scored (n + k) (history (f .pairs) n k))
-
-  -- the entries of the k pairs from a on
-  abbrev entriesAfter : ℕ → ℕ → List ScenecutResult
-  entriesAfter a k = closedEntriesOf fast level [] (history (f .pairs) a k)
-
-  after-long : (a k : ℕ) → length (entriesAfter a k) ≡ k
-  after-long a k = entries-long level fast [] (history (f .pairs) a k) ∙ history-long (f .pairs) a k
-
-  abbrev stateWith : ℕ → List ScenecutResult → View
-  stateWith n l = record {
-    settings = g;
-    entries = l;
-    count = length l;
-    offset = span;
-    lastNumber = n;
-    lastLength = f .lengths n;
-    firstNumber = 0;
-    release = 0;
-  }
+  items : (c : Call) (k : ℕ) → itemsOf fast level span (c .number) (itemIn g c) k [] ≡ entriesOf (firstItems g c k)
+  unfolding firstItems
+  items c zero = refl
+  items c (suc k) = rw (items c k) (score-entries level fast (itemAt g c k) (firstItems g c k))
 
   abbrev turnWith : List ScenecutResult → Turn
   turnWith l = record { entries = l; offset = span; again = false }
 
-  module _ (n : ℕ) (h : fullSet ≤ f .lengths n) where
-    longer : ltb (span + 1) (f .lengths n) ≡ true
-    longer = lt-ltb (span + 1) (f .lengths n) (omega arith)
+  module _ (c : Call) (h : fullSet ≤ c .setLength) where
+    longer : ltb (span + 1) (c .setLength) ≡ true
+    longer = lt-ltb (span + 1) (c .setLength) (omega arith)
 
     -- rule 5 scores pair n + 5
-    rule5-scores : (s : View) (l : List ScenecutResult) → s .settings ≡ g
-        → rule5 g (f .lengths n) n (itemOf s (callAt f n)) (turnWith l) ≡ turnWith (scoreOf fast level span (n + span) (seenOf fast (f .pairs (n + span))) l)
-    rule5-scores s l e = rw (longer, see s n span e (omega arith))
+    rule5-scores : (l : List ScenecutResult)
+        → rule5 g (c .setLength) (c .number) (itemIn g c) (turnWith l) ≡ turnWith (scoreOf fast level span (c .number + span) (itemIn g c span) l)
+    rule5-scores l = rw longer
 
     -- the first call scores six pairs
-    first-turn : progressOf (freshView g) (callAt f n) ≡ turnWith (entriesAfter n (suc span))
-    unfolding history
+    first-turn : progressOf (freshView g) c ≡ turnWith (entriesOf (firstItems g c (suc span)))
+    unfolding firstItems
     first-turn =
-        let four : rule4 g (f .lengths n) n (itemOf (freshView g) (callAt f n)) span [] ≡ turnWith (entriesAfter n span) = rw (longer, items n span (omega arith)) in
-        rw (ahead, four, rule5-scores (freshView g) (entriesAfter n span) refl, scored (n + span) (history (f .pairs) n span))
+        let four : rule4 g (c .setLength) (c .number) (itemIn g c) span [] ≡ turnWith (entriesOf (firstItems g c span)) = rw (longer, items c span) in
+        rw (ahead, four, rule5-scores (entriesOf (firstItems g c span)), score-entries level fast (itemAt g c span) (firstItems g c span))
 
-    begun : stepFault (freshView g) (callAt f n) ≡ 0 → compared (stepOf (freshView g) (callAt f n) .state) ≡ stateWith n (take keeps (entriesAfter n (suc span)))
+    begun : stepFault (freshView g) c ≡ 0 → compared (stepOf (freshView g) c .state) ≡ stateWith g c (closedDeque g (firstItems g c (suc span)))
     begun r =
-        let few : length (entriesAfter n (suc span)) ≤ suc keeps = omega (arith, after-long n (suc span)) in
-        rw (step-scored (freshView g) (callAt f n) r (rw offset (omega arith)) (suits .mode), first-turn, ahead) (ap (stateWith n) (trim keeps (entriesAfter n (suc span)) few))
+        let now = entriesOf (firstItems g c (suc span)) in
+        let few : length now ≤ suc keeps = omega (arith, entries-long level fast [] (firstItems g c (suc span)), first-long g c (suc span)) in
+        rw (step-scored (freshView g) c r (rw offset (omega arith)) mode, first-turn, ahead) (ap (stateWith g c) (trim keeps now few))
 
     -- each further call scores one
-    next-turn : (m : ℕ) (l : List ScenecutResult) → (length l ≡ 0 → ⊥)
-        → progressOf (stateWith m l) (callAt f n) ≡ turnWith (scoreOf fast level span (n + span) (seenOf fast (f .pairs (n + span))) l)
-    next-turn m l some = rw (ne-eqb (length l) 0 some) (rule5-scores (stateWith m l) l refl)
+    next-turn : (b : Call) (l : List ScenecutResult) → (length l ≡ 0 → ⊥)
+        → progressOf (stateWith g b l) c ≡ turnWith (scoreOf fast level span (c .number + span) (itemIn g c span) l)
+    next-turn b l some = rw (ne-eqb (length l) 0 some) (rule5-scores l)
 
-    went : (m : ℕ) (past : List Item) → 0 < length past → stepFault (stateWith m (take keeps (closedEntriesOf fast level [] past))) (callAt f n) ≡ 0
-        → compared (stepOf (stateWith m (take keeps (closedEntriesOf fast level [] past))) (callAt f n) .state) ≡ stateWith n (take keeps (closedEntriesOf fast level [] (item (n + span) ∷ past)))
-    went m past some r =
-        let was = closedEntriesOf fast level [] past in
-        let now = closedEntriesOf fast level [] (item (n + span) ∷ past) in
+    went : (b : Call) (past : List Item) → 0 < length past → stepFault (stateWith g b (closedDeque g past)) c ≡ 0
+        → compared (stepOf (stateWith g b (closedDeque g past)) c .state) ≡ stateWith g c (closedDeque g (itemAt g c span ∷ past))
+    went b past some r =
+        let was = entriesOf past in
+        let now = entriesOf (itemAt g c span ∷ past) in
         let long : length was ≡ length past = entries-long level fast [] past in
-        let e : scoreOf fast level span (n + span) (seenOf fast (f .pairs (n + span))) (take keeps was) ≡ take (suc keeps) now
-        = score-take level fast (n + span) (seenOf fast (f .pairs (n + span))) keeps was (omega arith) ∙ ap (take (suc keeps)) (scored (n + span) past) in
+        let e : scoreOf fast level span (c .number + span) (itemIn g c span) (take keeps was) ≡ take (suc keeps) now
+        = score-take level fast (c .number + span) (itemIn g c span) keeps was (omega arith)
+        ∙ ap (take (suc keeps)) (score-entries level fast (itemAt g c span) past) in
         let few : length (take (suc keeps) now) ≤ suc keeps = omega (arith, length-take (suc keeps) now) in
         rw (
-          step-scored (stateWith m (take keeps was)) (callAt f n) r (rw offset (omega arith)) (suits .mode),
-          next-turn m (take keeps was) (λ z. omega (arith, length-take keeps was)),
+          step-scored (stateWith g b (take keeps was)) c r (rw offset (omega arith)) mode,
+          next-turn b (take keeps was) (λ z. omega (arith, length-take keeps was)),
           e,
           ahead,
-        ) (ap (stateWith n) (trim keeps (take (suc keeps) now) few ∙ take-take keeps (suc keeps) now (omega arith)))
+        ) (ap (stateWith g c) (trim keeps (take (suc keeps) now) few ∙ take-take keeps (suc keeps) now (omega arith)))
 
-  -- the pair that call a + j + 1 scores is the next of the history
-  newest : (a j : ℕ) → item (a + suc j + span) ∷ history (f .pairs) a (suc (span + j)) ≡ history (f .pairs) a (suc (span + suc j))
-  unfolding history
-  newest a j =
-      let same : a + suc j + span ≡ a + suc (span + j) = omega arith in
-      let more : span + suc j ≡ suc (span + j) = omega arith in
-      rw (same, more)
+  -- further calls, from a state in closed form on
+  then-closed : (s : View) (b : Call) (past : List Item) (cs : List Call) → compared s ≡ stateWith g b (closedDeque g past) → 0 < length past
+      → allAccepted s cs ≡ true → FullSets cs
+      → compared (stateAfter s cs) ≡ stateWith g (lastCall b cs) (closedDeque g (scoredThen g past cs))
+  unfolding allAccepted stateAfter scoredThen
+  then-closed s b past [] e some t full = e
+  then-closed s b past (c ∷ cs) e some t full =
+      let u = and-both (eqb (stepFault s c) 0) _ t in
+      let r : stepFault (stateWith g b (closedDeque g past)) c ≡ 0
+      = ap (λ (v : View). stepFault v c) (sym e) ∙ fault-blind s c 0 0 ∙ eqb-true _ _ (u .0) in
+      let next : compared (stepOf s c .state) ≡ stateWith g c (closedDeque g (itemAt g c span ∷ past))
+      = sym (step-blind s c 0 0 .1) ∙ ap (λ (v : View). compared (stepOf v c .state)) e ∙ went c (full .0) b past some r in
+      then-closed (stepOf s c .state) c (itemAt g c span ∷ past) cs next (omega arith) (u .1) (full .1)
 
-  -- the state of a run after j + 1 calls
-  pub run-closed : (a j : ℕ) → Accepted f g a (suc j) → FullSets f a (suc j) → compared (runFrom f g a (suc j)) ≡ closedState f g a j
-  run-closed a zero t full =
-      rw (run-next f g a 0, run-none f g a)
-      (begun (a + 0) (full (a + 0) (omega arith) (omega arith)) (rw (run-none f g a) at (accepted-next f g a 0 t .1))
-      ∙ ap (λ (k : ℕ). stateWith (a + 0) (take keeps (entriesAfter k (suc span)))) (add-zero a))
-  run-closed a (suc j) t full =
-      let s = runFrom f g a (suc j) in
-      let c = callAt f (a + suc j) in
-      let u = accepted-next f g a (suc j) t in
-      let e : compared s ≡ closedState f g a j = run-closed a j (u .0) (λ n h l. full n h (omega arith)) in
-      let h = history (f .pairs) a (suc (span + j)) in
-      let r : stepFault (closedState f g a j) c ≡ 0 = ap (λ (v : View). stepFault v c) (sym e) ∙ fault-blind s c 0 0 ∙ u .1 in
-      ap compared (run-next f g a (suc j))
-      ∙ sym (step-blind s c 0 0 .1)
-      ∙ ap (λ (v : View). compared (stepOf v c .state)) e
-      ∙ went (a + suc j) (full (a + suc j) (omega arith) (omega arith)) (a + j) h (omega (arith, history-long (f .pairs) a (suc (span + j)))) r
-      ∙ ap (λ (l : List Item). stateWith (a + suc j) (take keeps (closedEntriesOf fast level [] l))) (newest a j)
+  -- the state of a detector after one call or more
+  pub calls-closed : (c : Call) (cs : List Call) → allAccepted (freshView g) (c ∷ cs) ≡ true → FullSets (c ∷ cs)
+      → compared (stateAfter (freshView g) (c ∷ cs)) ≡ stateWith g (lastCall c cs) (closedDeque g (scoredThen g (firstItems g c (suc span)) cs))
+  unfolding allAccepted stateAfter
+  calls-closed c cs t full =
+      let u = and-both (eqb (stepFault (freshView g) c) 0) _ t in
+      let next = begun c (full .0) (eqb-true _ _ (u .0)) in
+      then-closed (stepOf (freshView g) c .state) c (firstItems g c (suc span)) cs next (omega (arith, first-long g c (suc span))) (u .1) (full .1)

@@ -1,2 +1,1 @@
-pub mod Films
 pub mod Meeting

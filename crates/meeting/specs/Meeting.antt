@@ -1,65 +1,103 @@
--- Demand 3: a detector that starts again a few frames early decides as if it had never stopped. Films.antt says what a film and a run
--- are; proofs/Meets.antt proves each statement.
+-- Demand 3, over the detectors that run: a detector that starts again a few frames early decides as if it had never stopped. Histories, of
+-- which it speaks, are `detector`, specs/Histories.antt; proofs/Meets.antt proves each statement. Words in quotes are the demand's own.
 use mathlib.Core.Path.{_≡_}
-use mathlib.Core.List.{List}
-use mathlib.Core.Bool.{Bool, true, false, cond}
+use mathlib.Core.List.{List, [], _∷_, _++_, map}
+use mathlib.Core.Bool.{Bool, false, cond}
 use Prim.Native.Nat.{ℕ, _+_, _-_, _≤_, _<_}
+use lib.ListN.{length, drop}
 use Rattle.settings.specs.declared.Settings.{Settings}
 use Rattle.settings.specs.Settings.{normalLookahead, isNone, isFast}
-use Rattle.state.specs.State.{View, Call}
-use Rattle.detector.specs.Fresh.{freshView}
-use Rattle.detector.specs.Runs.{answersTo, stateAfter, allAccepted, compared}
-use Rattle.meeting.specs.Films.{Film, callsFrom, runFrom}
+use Rattle.score.specs.declared.Measure.{Measure}
+use Rattle.state.specs.State.{Call, call, view}
+use Rattle.state.specs.declared.State.{State}
+use Rattle.detector.specs.Rules.{measureOf}
+use Rattle.detector.specs.Runs.{compared}
+use Rattle.detector.specs.Histories.{Detector, Made, Follows, keptAfter, callsIn, acceptedIn, repliesIn, History}
 
--- Standard or Fast mode (every other number is refused), and a lookahead distance of at least 5
-pub record Suits (g : Settings) : Type 0 where
-  pub mode : isNone g ≡ false
-  pub lookahead : normalLookahead ≤ g .«lookahead_distance»
+-- ---- of calls
 
--- the first j calls of the run from a on are accepted; so a ≥ 1, as call 0 is refused
-abbrev pub Accepted : Film → Settings → ℕ → ℕ → Type 0
-Accepted f g a j = allAccepted (freshView g) (callsFrom f a j) ≡ true
+-- a call as its mode reads it: "Fast reads only inter costs"
+abbrev pub asRead : Settings → Call → Call
+asRead g c =
+    call (c .setLength) (c .number) (c .keyframe) (c .inter) (cond (isFast g) [] (c .importance)) (cond (isFast g) [] (c .threshold))
 
--- how many frames a set has at the least: "L ≥ 7"
-abbrev pub fullSet : ℕ
-fullSet = 7
+-- what it reads of item k
+abbrev pub itemIn : Settings → Call → ℕ → Measure
+itemIn g c = measureOf (isFast g) (c .inter) (c .importance) (c .threshold)
 
--- the j calls from a on have sets of seven frames or more
-abbrev pub FullSets : Film → ℕ → ℕ → Type 0
-FullSets f a j = (n : ℕ) → a ≤ n → n < a + j → fullSet ≤ f .lengths n
+-- where two calls read an item of one pair, it is the same; any two NaNs are, since there is one NaN among the floats of the logic
+abbrev pub Agree : Settings → Call → Call → Type 0
+Agree g c d =
+    (j k : ℕ) → j < c .setLength - 1 → k < d .setLength - 1 → c .number + j ≡ d .number + k → itemIn g c j ≡ itemIn g d k
 
--- an old run begun at a, and a later s, from which on a fresh one is to begin: the old run's calls, up to j of them from s on, are
--- accepted with full sets
-pub record Restart (f : Film) (g : Settings) (a s j : ℕ) : Type 0 where
-  pub suits : Suits g
-  pub later : a < s
-  pub accepted : Accepted f g a (s - a + j)
-  pub full : FullSets f a (s - a + j)
+-- what is said of every element of a list
+abbrev pub All : {A : Type 0} → (A → Type 0) → List A → Type 0
+All P [] = Unit {0}
+All P (x ∷ l) = P x × All P l
 
--- the calls after which two runs have met: five in Fast mode, ten in Standard
+-- ---- the hypotheses: `old` and `new` are the accepted calls of two detectors of equal settings
+
+-- "ten such calls in Standard mode, five in Fast"
 abbrev pub callsToMeet : Bool → ℕ
 callsToMeet fast = cond fast 5 10
 
--- 1. An old run begun at a, and a fresh one begun at a later s, on the same film. After j calls from s on, ten (five) or more, the two
--- states are equal in all but the first number and the release number. s = a + 1 is enough.
-abbrev pub Meeting : Type 0
-Meeting =
-    (f : Film) (g : Settings) (a s j : ℕ) → Restart f g a s j → callsToMeet (isFast g) ≤ j → Accepted f g s j
-    → compared (runFrom f g a (s - a + j)) ≡ compared (runFrom f g s j)
+-- "sets of seven or more frames"
+abbrev pub fullSet : ℕ
+fullSet = 7
 
--- 2. So every later decision, score and refusal is the same, whatever calls come, and the states stay equal but for these two numbers.
-abbrev pub SameAnswers : Type 0
-SameAnswers =
-    (s t : View) (cs : List Call) → compared s ≡ compared t
-    → (answersTo s cs ≡ answersTo t cs) × (compared (stateAfter s cs) ≡ compared (stateAfter t cs))
+abbrev pub FullSets : List Call → Type 0
+FullSets cs = All (λ (c : Call). fullSet ≤ c .setLength) cs
 
--- 3. Where the old run's calls are accepted, so are the fresh one's.
-abbrev pub Acceptance : Type 0
-Acceptance = (f : Film) (g : Settings) (a s j : ℕ) → Restart f g a s j → Accepted f g s j
+pub record Restart (g : Settings) (d : ℕ) (old new : List Call) : Type 0 where
+  -- "in Standard or Fast mode, lookahead five or more": every other mode than None is one of these or refused
+  pub mode : isNone g ≡ false
+  pub lookahead : normalLookahead ≤ g .«lookahead_distance»
+  -- "one measurement per pair of frames", over both
+  pub measured : All (λ (a : Call). All (Agree g a) (old ++ new)) (old ++ new)
+  -- "a detector begun afresh at a later frame": the old one has accepted d calls until then
+  pub later : 0 < d
+  -- "from the later start on, equal calls, each accepted by both detectors"
+  pub same : map (asRead g) (drop d old) ≡ map (asRead g) new
+  -- "with sets of seven or more frames throughout both runs until then"
+  pub full : FullSets (old ++ new)
+  -- "after ten such calls in Standard mode, five in Fast"
+  pub enough : callsToMeet (isFast g) ≤ length new
 
--- 4. All three in one: it is enough that the old run's calls are accepted.
-abbrev pub Demand3 : Type 0
-Demand3 =
-    (f : Film) (g : Settings) (a s j : ℕ) → Restart f g a s j → callsToMeet (isFast g) ≤ j → (cs : List Call)
-    → (answersTo (runFrom f g a (s - a + j)) cs ≡ answersTo (runFrom f g s j) cs)
-    × (compared (stateAfter (runFrom f g a (s - a + j)) cs) ≡ compared (stateAfter (runFrom f g s j) cs))
+-- ---- the statements, of any detector D that runs
+
+module _ (D : Detector) where
+  abbrev last : {g : Settings} → History D g → D .Kept
+  last h = keptAfter D (h .begun) (h .made)
+
+  abbrev accepted : {g : Settings} → History D g → List Call
+  accepted h = acceptedIn D (h .made)
+
+  -- which of its states are the same, "first and release numbers apart"
+  module _ (Alike : D .Kept → D .Kept → Type 0) where
+    -- 1. It "is after ten such calls .. in the same state as one that never stopped".
+    abbrev pub Meeting : Type 0
+    Meeting = (g : Settings) (d : ℕ) (old new : History D g) → Restart g d (accepted old) (accepted new) → Alike (last old) (last new)
+
+    -- 2. "So every later decision, score and refusal is the same": whatever calls are made of both after that, refused ones among them, they
+    -- get the same replies and end in such states again.
+    abbrev pub StayMet : Type 0
+    StayMet =
+        (g : Settings) (d : ℕ) (old new : History D g) → Restart g d (accepted old) (accepted new)
+        → (us vs : List (Made D)) → Follows D (last old) us → Follows D (last new) vs
+        → map (asRead g) (callsIn D us) ≡ map (asRead g) (callsIn D vs)
+        → (repliesIn D us ≡ repliesIn D vs) × Alike (keptAfter D (last old) us) (keptAfter D (last new) vs)
+
+  -- 3. A fresh detector that is given the old one's accepted calls again, from any of them on, accepts them all.
+  abbrev pub Acceptance : Type 0
+  Acceptance =
+      (g : Settings) (d : ℕ) (old new : History D g) → FullSets (accepted old)
+      → map (asRead g) (drop d (accepted old)) ≡ map (asRead g) (callsIn D (new .made)) → accepted new ≡ callsIn D (new .made)
+
+pub record Demand3 (D : Detector) (Alike : D .Kept → D .Kept → Type 0) : Type 0 where
+  pub meeting : Meeting D Alike
+  pub stayMet : StayMet D Alike
+  pub acceptance : Acceptance D
+
+-- for the detector whose state is handed on by value
+abbrev pub SameState : State → State → Type 0
+SameState s t = compared (view s) ≡ compared (view t)

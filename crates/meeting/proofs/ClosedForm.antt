@@ -1,5 +1,5 @@
 -- The deque in closed form: what each entry holds, by the pairs scored before and after it. It is a device of the proofs: no statement
--- speaks of it, and that it stands for runs with A = 5 and full sets is proved (Settle.antt, `run-closed`).
+-- speaks of it, and that it stands for calls with A = 5 and full sets is proved (Settle.antt, `calls-closed`).
 use mathlib.Core.List.{List, [], _∷_, map}
 use mathlib.Core.Bool.{Bool, true, false, cond}
 use Prim.Native.Nat.{ℕ, zero, suc, _+_}
@@ -12,8 +12,8 @@ use Rattle.score.specs.declared.ScenecutResult.{ScenecutResult}
 use Rattle.score.specs.declared.Measure.{Measure}
 use Rattle.score.specs.Deque.{scoreFrom}
 use Rattle.score.specs.Scores.{zeroF, maxF, walkBack, forwardOf, fastScore}
-use Rattle.state.specs.State.{View}
-use Rattle.meeting.specs.Films.{Film}
+use Rattle.state.specs.State.{View, Call}
+use Rattle.meeting.specs.Meeting.{itemIn}
 
 -- how many pairs on each side an adjusted cost is taken over: o, which is A
 abbrev pub span : ℕ
@@ -31,10 +31,28 @@ pub record Item : Type 0 where
 abbrev pub cost : Item → Float
 cost i = i .measure .inter
 
--- the k pairs of a film from pair a on, the newest first
-unfoldable pub history : (ℕ → Measure) → ℕ → ℕ → List Item
-history pairs a zero = []
-history pairs a (suc k) = record { pair = a + k; measure = pairs (a + k) } ∷ history pairs a k
+-- ---- the pairs that calls score, the newest first
+
+-- item k of a call: "Item k of a list is pair n + k"
+abbrev pub itemAt : Settings → Call → ℕ → Item
+itemAt g c k = record { pair = c .number + k; measure = itemIn g c k }
+
+-- the first k items of a call
+unfoldable pub firstItems : Settings → Call → ℕ → List Item
+firstItems g c zero = []
+firstItems g c (suc k) = itemAt g c k ∷ firstItems g c k
+
+-- each further call scores one pair
+unfoldable pub scoredThen : Settings → List Item → List Call → List Item
+scoredThen g past [] = past
+scoredThen g past (c ∷ cs) = scoredThen g (itemAt g c span ∷ past) cs
+
+-- the last of some calls
+abbrev pub lastCall : Call → List Call → Call
+lastCall c [] = c
+lastCall c (d ∷ ds) = lastCall d ds
+
+-- ---- the entry of a pair
 
 -- the forward cost after the later pairs' inter costs, the nearest first; `first` says that none came before these
 abbrev pub forwardFrom : Float → Bool → Float → List Float → Float
@@ -60,19 +78,19 @@ abbrev pub closedEntriesOf : Bool → Float → List Float → List Item → Lis
 closedEntriesOf fast level later [] = []
 closedEntriesOf fast level later (i ∷ earlier) = entryOf fast level later i earlier ∷ closedEntriesOf fast level (cost i ∷ later) earlier
 
--- what a run from a on leaves after j + 1 calls, the first number and the release number apart: the first call scores o + 1 pairs, each
--- further call one
-abbrev pub closedDeque : Film → Settings → ℕ → ℕ → List ScenecutResult
-closedDeque f g a j = take keeps (closedEntriesOf (isFast g) (fastThreshold g) [] (history (f .pairs) a (suc (span + j))))
+-- ---- what a detector keeps after a last call and the pairs scored until then, the first number and the release number apart
 
-abbrev pub closedState : Film → Settings → ℕ → ℕ → View
-closedState f g a j = record {
+abbrev pub closedDeque : Settings → List Item → List ScenecutResult
+closedDeque g past = take keeps (closedEntriesOf (isFast g) (fastThreshold g) [] past)
+
+abbrev pub stateWith : Settings → Call → List ScenecutResult → View
+stateWith g c l = record {
   settings = g;
-  entries = closedDeque f g a j;
-  count = length (closedDeque f g a j);
+  entries = l;
+  count = length l;
   offset = span;
-  lastNumber = a + j;
-  lastLength = f .lengths (a + j);
+  lastNumber = c .number;
+  lastLength = c .setLength;
   firstNumber = 0;
   release = 0;
 }

@@ -1,0 +1,83 @@
+-- Calls that are equal as their mode reads them: what they score, and what a step makes of them. Assumes nothing.
+use mathlib.Core.Path.{_≡_, refl, sym, _∙_, ap}
+use mathlib.Core.Bool.{Bool, true, false, cond}
+use mathlib.Core.List.{List, [], _∷_, map, nil≢cons, head-eq-of-cons-eq, tail-eq-of-cons-eq}
+use Prim.Native.Nat.{ℕ, _+_}
+use lib.Ieee.{Float}
+use Rattle.settings.specs.declared.Settings.{Settings}
+use Rattle.settings.specs.Settings.{isFast}
+use Rattle.score.specs.declared.Measure.{Measure}
+use Rattle.state.specs.State.{View, Call, call}
+use Rattle.state.specs.Refusals.{stepFault}
+use Rattle.state.proofs.Fine.{unread}
+use Rattle.detector.specs.Rules.{measureOf}
+use Rattle.detector.specs.Step.{Outcome, stepOf}
+use Rattle.detector.specs.Runs.{compared}
+use Rattle.detector.proofs.Views.{Alike, alike, unread-blind}
+use Rattle.meeting.specs.Meeting.{asRead, itemIn}
+use Rattle.meeting.proofs.ClosedForm.{span, Item, itemAt, scoredThen, lastCall}
+
+-- ---- what they score
+
+seen-same : (b : Bool) (ds is ts : List Float) (k : ℕ) → measureOf b ds (cond b [] is) (cond b [] ts) k ≡ measureOf b ds is ts k
+seen-same true ds is ts k = refl
+seen-same false ds is ts k = refl
+
+module _ (g : Settings) where
+  item-as-read : (c : Call) (k : ℕ) → itemAt g (asRead g c) k ≡ itemAt g c k
+  item-as-read c k = ap (λ (m : Measure). record { pair = c .number + k; measure = m }) (seen-same (isFast g) (c .inter) (c .importance) (c .threshold) k)
+
+  pub same-item : (c d : Call) (k : ℕ) → asRead g c ≡ asRead g d → itemAt g c k ≡ itemAt g d k
+  same-item c d k e = sym (item-as-read c k) ∙ ap (λ (x : Call). itemAt g x k) e ∙ item-as-read d k
+
+  pub same-scored : (past : List Item) (cs ds : List Call) → map (asRead g) cs ≡ map (asRead g) ds → scoredThen g past cs ≡ scoredThen g past ds
+  unfolding scoredThen
+  same-scored past [] [] e = refl
+  same-scored past [] (d ∷ ds) e = absurd (nil≢cons e)
+  same-scored past (c ∷ cs) [] e = absurd (nil≢cons (sym e))
+  same-scored past (c ∷ cs) (d ∷ ds) e =
+      ap (λ (i : Item). scoredThen g (i ∷ past) cs) (same-item c d span (head-eq-of-cons-eq e))
+      ∙ same-scored (itemAt g d span ∷ past) cs ds (tail-eq-of-cons-eq e)
+
+  pub same-last : (c d : Call) (cs ds : List Call) → asRead g c ≡ asRead g d → map (asRead g) cs ≡ map (asRead g) ds
+      → asRead g (lastCall c cs) ≡ asRead g (lastCall d ds)
+  same-last c d [] [] e f = e
+  same-last c d [] (x ∷ ds) e f = absurd (nil≢cons f)
+  same-last c d (x ∷ cs) [] e f = absurd (nil≢cons (sym f))
+  same-last c d (x ∷ cs) (y ∷ ds) e f = same-last x y cs ds (head-eq-of-cons-eq f) (tail-eq-of-cons-eq f)
+
+-- ---- what a step makes of them
+
+module _ (s : View) where
+  -- the step looks at a call as its mode reads it
+  step-as-read : (c : Call) → stepOf s (asRead (s .settings) c) ≡ stepOf s c
+  step-as-read c = by (isFast (s .settings)) refl
+    where
+      by : (b : Bool) → isFast (s .settings) ≡ b
+          → stepOf s (call (c .setLength) (c .number) (c .keyframe) (c .inter) (cond b [] (c .importance)) (cond b [] (c .threshold))) ≡ stepOf s c
+      by true e = unread-blind s (c .setLength) (c .number) (c .keyframe) (c .inter) [] [] (c .importance) (c .threshold) e
+      by false e = refl
+
+  fault-as-read : (c : Call) → stepFault s (asRead (s .settings) c) ≡ stepFault s c
+  fault-as-read c = by (isFast (s .settings)) refl
+    where
+      by : (b : Bool) → isFast (s .settings) ≡ b
+          → stepFault s (call (c .setLength) (c .number) (c .keyframe) (c .inter) (cond b [] (c .importance)) (cond b [] (c .threshold))) ≡ stepFault s c
+      by true e = unread s _ _ (rw e) refl refl refl refl
+      by false e = refl
+
+-- two states that are the same but for the two numbers, and two calls that are the same as read
+pub same-step : (g : Settings) (s t : View) (c d : Call) → s .settings ≡ g → t .settings ≡ g → compared s ≡ compared t → asRead g c ≡ asRead g d
+    → Alike (stepOf s c) (stepOf t d)
+same-step g s t c d p q e r =
+    let x : stepOf s (asRead g d) ≡ stepOf s c
+    = ap (stepOf s) (sym r) ∙ ap (λ (h : Settings). stepOf s (asRead h c)) (sym p) ∙ step-as-read s c in
+    let y : stepOf t (asRead g d) ≡ stepOf t d = ap (λ (h : Settings). stepOf t (asRead h d)) (sym q) ∙ step-as-read t d in
+    let z = alike s t (asRead g d) e in
+    (sym (ap (λ (o : Outcome). o .answer) x) ∙ z .0 ∙ ap (λ (o : Outcome). o .answer) y,
+     sym (ap (λ (o : Outcome). compared (o .state)) x) ∙ z .1 ∙ ap (λ (o : Outcome). compared (o .state)) y)
+
+pub same-fault : (g : Settings) (s : View) (c d : Call) → s .settings ≡ g → asRead g c ≡ asRead g d → stepFault s c ≡ stepFault s d
+same-fault g s c d p r =
+    sym (fault-as-read s c) ∙ ap (λ (h : Settings). stepFault s (asRead h c)) p ∙ ap (stepFault s) r
+    ∙ ap (λ (h : Settings). stepFault s (asRead h d)) (sym p) ∙ fault-as-read s d
