@@ -1,2 +1,4 @@
 pub mod Numbers
 pub mod Unique
+pub mod Histories
+pub mod Contracts

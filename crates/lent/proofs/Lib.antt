@@ -2,3 +2,5 @@ pub mod Sizes
 pub mod Scores
 pub mod Unique
 pub mod Placed
+pub mod Histories
+pub mod Contracts

@@ -17,12 +17,12 @@ use Rattle.lent.specs.Places.{scoreLong, frontScore, scoresOf, entriesOf
 
 -- ---- reading
 
-scores-long : (k : ℕ) (xs : List Float) → length (scoresOf k xs) ≡ k
+pub scores-long : (k : ℕ) (xs : List Float) → length (scoresOf k xs) ≡ k
 unfolding scoresOf
 scores-long zero xs = refl
 scores-long (suc k) xs = ap suc (scores-long k (drop scoreLong xs))
 
-score-at : (k i : ℕ) (xs : List Float) → i < k → getD (scoresOf k xs) i noScore ≡ frontScore (drop (i * scoreLong) xs)
+pub score-at : (k i : ℕ) (xs : List Float) → i < k → getD (scoresOf k xs) i noScore ≡ frontScore (drop (i * scoreLong) xs)
 unfolding scoresOf
 score-at zero i xs h = absurd (omega arith)
 score-at (suc k) zero xs h = refl

@@ -6,3 +6,4 @@ pub mod Settle
 pub mod Newest
 pub mod Takes
 pub mod Meets
+pub mod Demand3

@@ -1,0 +1,207 @@
+-- The lent places keep to the definitions as the state by value does: each call that is allowed is `stepOf` of the state in them, and they
+-- stay a state. And places that show the same but for two numbers are the same to whoever reads them.
+-- Assumes nothing.
+use mathlib.Core.Path.{_≡_, refl, sym, _∙_, ap}
+use mathlib.Core.Bool.{Bool, true, false, not}
+use mathlib.Core.List.{List, [], _∷_, _++_}
+use mathlib.Core.Option.{Option, none, some}
+use Prim.Native.Nat.{ℕ, zero, suc, _+_, _*_, _≤_, _<_}
+use native.Mathlib.Omega.{arith}
+use borrow.Author.Tests.{eqb-true, eqb-false, eq-eqb, not-false}
+use lib.Dec.{eqb}
+use lib.Ieee.{Float, nan}
+use lib.ListN.{length, take, drop, getD, length-append, length-drop, length-take, drop-of-length-le}
+use lib.Seq.{getD-take, getD-drop, drop-cons}
+use Rattle.answer.specs.Answer.{Answer, gives, refused}
+use Rattle.answer.specs.Refusal.{refusal}
+use Rattle.answer.proofs.Laws.{or-none, passed, lent-written}
+use Rattle.settings.specs.declared.Settings.{Settings}
+use Rattle.settings.specs.Settings.{room, settingsFault}
+use Rattle.score.specs.declared.ScenecutResult.{ScenecutResult}
+use Rattle.score.specs.Deque.{noScore}
+use Rattle.state.specs.State.{View, Call}
+use Rattle.state.specs.Refusals.{stateFault, stepFault}
+use Rattle.state.proofs.Tests.{and-both}
+use Rattle.state.proofs.Well.{well}
+use Rattle.detector.specs.declared.StepAnswer.{StepAnswer}
+use Rattle.detector.specs.Fresh.{freshView}
+use Rattle.detector.specs.Step.{Verdict, Outcome, isRefused, stepAnswer, stepOf}
+use Rattle.detector.specs.Runs.{compared}
+use Rattle.detector.proofs.Cases.{step-refused}
+use Rattle.detector.proofs.Left.{entries-few}
+use Rattle.detector.proofs.Reach.{fresh-passes, step-passes}
+use Rattle.detector.proofs.Unique.{answer-only}
+use Rattle.detector.proofs.Histories.{Shows, decided-is}
+use Rattle.lent.specs.Places.{settingsLong, callLong, numbersLong, scoreLong, scoresLong, isState, frontScore, scoresOf, entriesOf, stateOf, settingNumbers, callNumbers, doubles, placed}
+use Rattle.lent.specs.Lent.{freshFault, freshNumbers, lentStep, numbersAfter, scoresAfter}
+use Rattle.lent.specs.Histories.{Places, byPlaces, offsetPlace, countPlace, numberAt, doubleAt, comparedNumbers, SamePlaces}
+use Rattle.lent.proofs.Sizes.{both}
+use Rattle.lent.proofs.Scores.{scores-long, score-at}
+use Rattle.lent.proofs.Placed.{carried, fresh-carried}
+
+-- ---- the places stay a state
+
+placed-long : (l : List ScenecutResult) (xs : List Float) → length l * scoreLong ≤ length xs → length (placed l xs) ≡ length xs
+unfolding placed
+placed-long [] xs h = refl
+placed-long (e ∷ l) xs h =
+    let rest = length-drop scoreLong xs in
+    omega (arith, placed-long l (drop scoreLong xs) (omega arith))
+
+module _ (ns : List ℕ) (xs : List Float) (is : isState ns xs ≡ true) where
+  long : (length ns ≡ numbersLong) × (length xs ≡ scoresLong)
+  long =
+      let p = and-both (eqb (length ns) numbersLong) (eqb (length xs) scoresLong) is in
+      (eqb-true _ _ (p .0), eqb-true _ _ (p .1))
+
+  -- after any outcome with no more entries than there is room for
+  still : (a : Answer Verdict) (s : View) → ((v : Verdict) → a ≡ gives v → length (s .entries) ≤ room)
+      → isState (numbersAfter (record { answer = a; state = s }) ns) (scoresAfter (record { answer = a; state = s }) xs) ≡ true
+  still (refused f) s few = is
+  still (gives v) s few =
+      let written = take settingsLong ns ++ callNumbers s in
+      let front : length written ≡ numbersLong
+      = omega (arith, length-append (take settingsLong ns) (callNumbers s), length-take settingsLong ns, long .0) in
+      both written (scoresAfter (record { answer = gives v; state = s }) xs) front (by (v .score))
+    where
+      by : (o : Option ScenecutResult)
+          → length (scoresAfter (record { answer = gives (record { cut = v .cut; score = o }); state = s }) xs) ≡ scoresLong
+      by none = long .1
+      by (some e) = placed-long (s .entries) xs (omega (arith, few v refl, long .1)) ∙ long .1
+
+-- ---- each call is `stepOf` of the state in them
+
+abbrev pub Sound : Places → Type 0
+Sound p = (isState (p .numbers) (p .scores) ≡ true) × (stateFault (stateOf (p .numbers) (p .scores)) ≡ 0)
+
+abbrev pub seen : Places → View
+seen p = stateOf (p .numbers) (p .scores)
+
+module _ (p : Places) (c : Call) (w : Sound p) where
+  abbrev lent : Outcome
+  lent = lentStep (p .numbers) (p .scores) c
+
+  stepped : lent ≡ stepOf (seen p) c
+  stepped = rw (w .0)
+
+  pub holds : stateOf (numbersAfter lent (p .numbers)) (scoresAfter lent (p .scores)) ≡ stepOf (seen p) c .state
+  holds = by (lent .answer) refl
+    where
+      by : (a : Answer Verdict) → lent .answer ≡ a → stateOf (numbersAfter lent (p .numbers)) (scoresAfter lent (p .scores)) ≡ stepOf (seen p) c .state
+      by (gives v) e = carried (p .numbers) (p .scores) c (w .0) v e ∙ ap (λ (o : Outcome). o .state) stepped
+      by (refused f) e =
+          let none : eqb (stepFault (seen p) c) 0 ≡ false
+          = sym (decided-is (seen p) c) ∙ ap (λ (a : Answer Verdict). not (isRefused a)) (sym (ap (λ (o : Outcome). o .answer) stepped) ∙ e) in
+          rw e (sym (ap (λ (o : Outcome). o .state) (step-refused (seen p) c (eqb-false _ _ none))))
+
+  pub state-still : isState (numbersAfter lent (p .numbers)) (scoresAfter lent (p .scores)) ≡ true
+  state-still =
+      still (p .numbers) (p .scores) (w .0) (lent .answer) (lent .state)
+      (λ v e. rw stepped (entries-few (seen p) c v (sym (ap (λ (o : Outcome). o .answer) stepped) ∙ e)))
+
+-- what a call leaves in the places, whatever it replies
+module _ (p q : Places) (c : Call) (w : Sound p) (n : q .numbers ≡ numbersAfter (lent p c w) (p .numbers)) (x : q .scores ≡ scoresAfter (lent p c w) (p .scores)) where
+  pub leaves-state : seen q ≡ stepOf (seen p) c .state
+  leaves-state = rw (n, x) (holds p c w)
+
+  pub stays-sound : Sound q
+  stays-sound = (rw (n, x) (state-still p c w), rw leaves-state (step-passes (seen p) c (w .1)))
+
+pub answers : (p : Places) (c : Call) → Sound p → lentStep (p .numbers) (p .scores) c .answer ≡ stepOf (seen p) c .answer
+answers p c w = ap (λ (o : Outcome). o .answer) (stepped p c w)
+
+pub fresh-sound : (g : Settings) (p : Places) → byPlaces .Begins g p → Sound p × (seen p ≡ freshView g) × (settingsFault g ≡ 0)
+fresh-sound g p b =
+    let ns = b .0 in
+    let none = or-none (refusal 11 (not (isState ns (p .scores)))) (settingsFault g) (sym (b .1)) in
+    let was : isState ns (p .scores) ≡ true = not-false (isState ns (p .scores)) (passed 10 _ (none .0)) in
+    let written : p .numbers ≡ settingNumbers g ++ callNumbers (freshView g) = b .2 ∙ sym (lent-written (freshFault ns (p .scores) g) _ ns (b .1)) in
+    let is : isState (p .numbers) (p .scores) ≡ true = rw written (both (settingNumbers g ++ callNumbers (freshView g)) (p .scores) refl (long ns (p .scores) was .1)) in
+    let shown : seen p ≡ freshView g = rw (b .2) (fresh-carried ns (p .scores) g (sym (b .1))) in
+    ((is, rw shown (fresh-passes g (none .1))), shown, none .1)
+
+abbrev pub places-show : Shows byPlaces
+places-show = record {
+  Sound = Sound;
+  seen = seen;
+  begins = fresh-sound;
+  stays = λ p q c a w d. stays-sound p q c w (d .1) (d .2);
+  steps = λ p q c a w d. leaves-state p q c w (d .1) (d .2);
+  tells = λ p q c a w d. ap (λ (x : Answer Verdict). not (isRefused x)) (d .0 ∙ answers p c w) ∙ decided-is (seen p) c;
+  replies = λ p q p′ q′ c d a b w w′ h h′ e. answer-only a b (h .0 ∙ answers p c w ∙ e ∙ sym (h′ .0 ∙ answers p′ d w′));
+}
+
+-- ---- what a reader of the places sees
+
+-- a list by its numbers
+numbersFrom : ℕ → ℕ → List ℕ → List ℕ
+numbersFrom zero i l = []
+numbersFrom (suc n) i l = getD l i 0 ∷ numbersFrom n (suc i) l
+
+from-is : (n i : ℕ) (l : List ℕ) → i + n ≡ length l → drop i l ≡ numbersFrom n i l
+unfolding numbersFrom
+from-is zero i l e = drop-of-length-le l {i = i} (omega arith)
+from-is (suc n) i l e = drop-cons l i 0 (omega arith) ∙ ap (λ (r : List ℕ). getD l i 0 ∷ r) (from-is n (suc i) l (omega arith))
+
+-- what `comparedNumbers` shows of a view
+abbrev shown : View → List ℕ
+shown s = settingNumbers (s .settings) ++ (s .offset ∷ s .lastNumber ∷ s .lastLength ∷ 0 ∷ 0 ∷ s .count ∷ [])
+
+numbers-shown : (p : Places) → Sound p → comparedNumbers p ≡ shown (compared (seen p))
+unfolding numbersFrom
+numbers-shown p w =
+    ap (λ (l : List ℕ). comparedNumbers (record { numbers = l; scores = p .scores }))
+    (from-is numbersLong 0 (p .numbers) (sym (long (p .numbers) (p .scores) (w .0) .0)))
+
+-- double j of the score that five doubles are
+doubleOf : ScenecutResult → ℕ → Float
+doubleOf x j = getD (doubles x) j nan
+
+double-front : (xs : List Float) (j : ℕ) → j < scoreLong → getD xs j nan ≡ doubleOf (frontScore xs) j
+unfolding doubleOf
+double-front xs zero h = refl
+double-front xs (suc zero) h = refl
+double-front xs (suc (suc zero)) h = refl
+double-front xs (suc (suc (suc zero))) h = refl
+double-front xs (suc (suc (suc (suc zero)))) h = refl
+double-front xs (suc (suc (suc (suc (suc j))))) h = absurd (omega arith)
+
+-- the doubles below the count are those of the entries
+double-seen : (p : Places) (k j : ℕ) → k < length (seen p .entries) → j < scoreLong → doubleAt k j p ≡ doubleOf (getD (seen p .entries) k noScore) j
+double-seen p k j h l =
+    let n = numberAt countPlace p in
+    let most = length-take n (scoresOf room (p .scores)) in
+    let all = scores-long room (p .scores) in
+    let e : getD (seen p .entries) k noScore ≡ frontScore (drop (k * scoreLong) (p .scores))
+    = getD-take n (scoresOf room (p .scores)) k noScore (omega arith) ∙ score-at room k (p .scores) (omega arith) in
+    sym (getD-drop (k * scoreLong) (p .scores) j nan) ∙ double-front (drop (k * scoreLong) (p .scores)) j l ∙ ap (λ (x : ScenecutResult). doubleOf x j) (sym e)
+
+module _ (p q : Places) (w : Sound p) (u : Sound q) (e : compared (seen p) ≡ compared (seen q)) where
+  entries-same : seen p .entries ≡ seen q .entries
+  entries-same = ap (λ (s : View). s .entries) e
+
+  -- a state that passes 11 has as many entries as it counts
+  entries-counted : length (seen p .entries) ≡ numberAt countPlace p
+  entries-counted =
+      omega (
+        arith,
+        well (seen p) (w .1) .few,
+        length-take (numberAt countPlace p) (scoresOf room (p .scores)),
+        scores-long room (p .scores),
+      )
+
+  same-double : (k j : ℕ) → k < numberAt countPlace p → j < scoreLong → doubleAt k j p ≡ doubleAt k j q
+  same-double k j h l =
+      let here : k < length (seen p .entries) = omega (arith, entries-counted) in
+      double-seen p k j here l
+      ∙ ap (λ (es : List ScenecutResult). doubleOf (getD es k noScore) j) entries-same
+      ∙ sym (double-seen q k j (rw entries-same at here) l)
+
+  pub same-places : SamePlaces p q
+  same-places = record {
+    numbers = numbers-shown p w ∙ ap shown e ∙ sym (numbers-shown q u);
+    scores = same-double;
+    decided = λ j h l.
+      let o = well (seen p) (w .1) .within (omega (arith, entries-counted)) in
+      same-double (numberAt offsetPlace p) j (omega (arith, entries-counted)) l ∙ ap (λ (n : ℕ). doubleAt n j q) (ap (λ (s : View). s .offset) e);
+  }
