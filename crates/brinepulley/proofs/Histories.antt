@@ -3,19 +3,24 @@
 -- Assumes nothing.
 use mathlib.Core.Path.{_≡_, refl, sym, _∙_, ap}
 use mathlib.Core.Bool.{false, true≢false}
+use mathlib.Core.List.{List}
 use Prim.Native.Nat.{ℕ, zero, suc}
 use lib.Dec.{eqb}
 use lib.IntN.{pos, negℤ}
+use lib.Ieee.{Float}
 use borrow.Author.Tests.{eq-eqb, ne-eqb}
 use Rattle.answer.specs.Answer.{Answer}
-use Rattle.answer.proofs.Laws.{answer-cases}
+use Rattle.answer.proofs.Laws.{answer-cases, answer-given}
+use Rattle.settings.specs.declared.Settings.{Settings}
 use Rattle.state.specs.State.{View, Call}
 use Rattle.state.specs.Refusals.{stepFault}
 use Rattle.detector.specs.Step.{Verdict, stepOf}
 use Rattle.detector.proofs.Cases.{step-cases}
 use Rattle.detector.proofs.Histories.{Shows}
-use Rattle.lent.specs.Lent.{freshFault}
-use Rattle.lent.proofs.Histories.{Sound, seen, leaves-state, stays-sound, answers, fresh-sound}
+use Rattle.detector.proofs.Makes.{Makes}
+use Rattle.lent.specs.Lent.{freshFault, lentStep}
+use Rattle.lent.specs.Histories.{Places}
+use Rattle.lent.proofs.Histories.{Sound, seen, leaves-state, stays-sound, answers, fresh-sound, placesAfter, freshPlaces}
 use Rattle.brinepulley.specs.Coded.{coded, done, decided}
 use Rattle.brinepulley.specs.Histories.{notNegative, inC}
 
@@ -44,3 +49,14 @@ c-shows = record {
   replies = λ p q p′ q′ c d r r′ w w′ h h′ e.
     h .0 ∙ ap (λ (a : Answer Verdict). coded (decided a)) (answers p c w ∙ e ∙ sym (answers p′ d w′)) ∙ sym (h′ .0);
 }
+
+-- every call has such a result, and so has every fresh detector that is not refused
+abbrev pub c-makes : Makes inC
+c-makes = record {
+  reply = λ (p : Places) (c : Call). coded (decided (lentStep (p .numbers) (p .scores) c .answer));
+  after = placesAfter;
+  allowed = λ p c. (refl, refl, refl);
+}
+
+pub c-begins : (ns : List ℕ) (xs : List Float) (g : Settings) → 0 ≡ freshFault ns xs g → inC .Begins g (freshPlaces ns xs g)
+c-begins ns xs g e = (ns, ap coded (answer-given (freshFault ns xs g) 0 0 e refl), refl)

@@ -8,4 +8,5 @@ pub mod Left
 pub mod Account
 pub mod Unique
 pub mod Histories
+pub mod Makes
 pub mod Contracts

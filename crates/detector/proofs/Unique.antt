@@ -1,6 +1,6 @@
 -- Each contract of this crate allows one outcome alone. Assumes nothing.
 use mathlib.Core.Path.{_≡_, refl, sym, _∙_, ap}
-use mathlib.Core.Bool.{true}
+use mathlib.Core.Bool.{Bool, true}
 use mathlib.Core.Option.{Option, none, some}
 use Rattle.answer.specs.Answer.{Answer, gives, refused}
 use Rattle.answer.specs.Unique.{OneOutcome}
@@ -24,22 +24,20 @@ use Rattle.detector.proofs.runs.then_step.Reads as then-step-reads
 use Rattle.detector.proofs.runs.run.Kinds as run-kinds
 use Rattle.detector.proofs.runs.run.Reads as run-reads
 
+-- the answer with a number and values
+abbrev decisionBy : Bool → Option ScenecutResult → Decision
+decisionBy cut none = Bare cut
+decisionBy cut (some e) = Scored cut e
+
+abbrev pub answerBy : Answer Verdict → StepAnswer
+answerBy (gives v) = Decided (decisionBy (v .cut) (v .score))
+answerBy (refused f) = Refused f
+
 -- two answers with the same number and values are the same
 pub answer-only : (r s : StepAnswer) → stepAnswer r ≡ stepAnswer s → r ≡ s
-answer-only = only stepAnswer back same
+answer-only = only stepAnswer answerBy same
   where
-    decision : Verdict → Decision
-    decision v = by (v .score)
-      where
-        by : Option ScenecutResult → Decision
-        by none = Bare (v .cut)
-        by (some e) = Scored (v .cut) e
-
-    back : Answer Verdict → StepAnswer
-    back (gives v) = Decided (decision v)
-    back (refused f) = Refused f
-
-    same : (r : StepAnswer) → back (stepAnswer r) ≡ r
+    same : (r : StepAnswer) → answerBy (stepAnswer r) ≡ r
     same (Refused f) = refl
     same (Decided (Bare cut)) = refl
     same (Decided (Scored cut e)) = refl

@@ -61,6 +61,13 @@ pub record History (D : Detector) (g : Settings) : Type 0 where
   pub made : List (Made D)
   pub follows : Follows D begun made
 
+-- what it keeps at its end, and its accepted calls
+abbrev pub lastKept : {D : Detector} {g : Settings} → History D g → D .Kept
+lastKept {D} h = keptAfter D (h .begun) (h .made)
+
+abbrev pub acceptedCalls : {D : Detector} {g : Settings} → History D g → List Call
+acceptedCalls {D} h = acceptedIn D (h .made)
+
 -- ---- the detector of this crate: proofs/Contracts.antt shows that what it allows are the contracts of `fresh` and `step`, word for word
 
 abbrev pub byValue : Detector

@@ -30,8 +30,9 @@ use Rattle.detector.specs.Runs.{compared}
 use Rattle.detector.proofs.Cases.{step-refused}
 use Rattle.detector.proofs.Left.{entries-few}
 use Rattle.detector.proofs.Reach.{fresh-passes, step-passes}
-use Rattle.detector.proofs.Unique.{answer-only}
+use Rattle.detector.proofs.Unique.{answerBy, answer-only}
 use Rattle.detector.proofs.Histories.{Shows, decided-is}
+use Rattle.detector.proofs.Makes.{Makes, answer-back}
 use Rattle.lent.specs.Places.{settingsLong, callLong, numbersLong, scoreLong, scoresLong, isState, frontScore, scoresOf, entriesOf, stateOf, settingNumbers, callNumbers, doubles, placed}
 use Rattle.lent.specs.Lent.{freshFault, freshNumbers, lentStep, numbersAfter, scoresAfter}
 use Rattle.lent.specs.Histories.{Places, byPlaces, offsetPlace, countPlace, numberAt, doubleAt, comparedNumbers, SamePlaces}
@@ -130,6 +131,26 @@ places-show = record {
   tells = λ p q c a w d. ap (λ (x : Answer Verdict). not (isRefused x)) (d .0 ∙ answers p c w) ∙ decided-is (seen p) c;
   replies = λ p q p′ q′ c d a b w w′ h h′ e. answer-only a b (h .0 ∙ answers p c w ∙ e ∙ sym (h′ .0 ∙ answers p′ d w′));
 }
+
+-- every call has such a result, and so has every fresh detector that is not refused
+abbrev pub placesAfter : Places → Call → Places
+placesAfter p c = record {
+  numbers = numbersAfter (lentStep (p .numbers) (p .scores) c) (p .numbers);
+  scores = scoresAfter (lentStep (p .numbers) (p .scores) c) (p .scores);
+}
+
+abbrev pub places-make : Makes byPlaces
+places-make = record {
+  reply = λ (p : Places) (c : Call). answerBy (lentStep (p .numbers) (p .scores) c .answer);
+  after = placesAfter;
+  allowed = λ p c. (answer-back (lentStep (p .numbers) (p .scores) c .answer), refl, refl);
+}
+
+abbrev pub freshPlaces : List ℕ → List Float → Settings → Places
+freshPlaces ns xs g = record { numbers = freshNumbers ns xs g; scores = xs }
+
+pub places-begin : (ns : List ℕ) (xs : List Float) (g : Settings) → 0 ≡ freshFault ns xs g → byPlaces .Begins g (freshPlaces ns xs g)
+places-begin ns xs g e = (ns, e, refl)
 
 -- ---- what a reader of the places sees
 

@@ -7,3 +7,4 @@ pub mod Newest
 pub mod Takes
 pub mod Meets
 pub mod Demand3
+pub mod Witnesses

@@ -12,7 +12,7 @@ use Rattle.state.specs.State.{Call, call, view}
 use Rattle.state.specs.declared.State.{State}
 use Rattle.detector.specs.Rules.{measureOf}
 use Rattle.detector.specs.Runs.{compared}
-use Rattle.detector.specs.Histories.{Detector, Made, Follows, keptAfter, callsIn, acceptedIn, repliesIn, History}
+use Rattle.detector.specs.Histories.{Detector, Made, Follows, keptAfter, callsIn, repliesIn, History, lastKept, acceptedCalls}
 
 -- ---- of calls
 
@@ -66,32 +66,26 @@ pub record Restart (g : Settings) (d : ℕ) (old new : List Call) : Type 0 where
 -- ---- the statements, of any detector D that runs
 
 module _ (D : Detector) where
-  abbrev last : {g : Settings} → History D g → D .Kept
-  last h = keptAfter D (h .begun) (h .made)
-
-  abbrev accepted : {g : Settings} → History D g → List Call
-  accepted h = acceptedIn D (h .made)
-
   -- which of its states are the same, "first and release numbers apart"
   module _ (Alike : D .Kept → D .Kept → Type 0) where
     -- 1. It "is after ten such calls .. in the same state as one that never stopped".
     abbrev pub Meeting : Type 0
-    Meeting = (g : Settings) (d : ℕ) (old new : History D g) → Restart g d (accepted old) (accepted new) → Alike (last old) (last new)
+    Meeting = (g : Settings) (d : ℕ) (old new : History D g) → Restart g d (acceptedCalls old) (acceptedCalls new) → Alike (lastKept old) (lastKept new)
 
     -- 2. "So every later decision, score and refusal is the same": whatever calls are made of both after that, refused ones among them, they
     -- get the same replies and end in such states again.
     abbrev pub StayMet : Type 0
     StayMet =
-        (g : Settings) (d : ℕ) (old new : History D g) → Restart g d (accepted old) (accepted new)
-        → (us vs : List (Made D)) → Follows D (last old) us → Follows D (last new) vs
+        (g : Settings) (d : ℕ) (old new : History D g) → Restart g d (acceptedCalls old) (acceptedCalls new)
+        → (us vs : List (Made D)) → Follows D (lastKept old) us → Follows D (lastKept new) vs
         → map (asRead g) (callsIn D us) ≡ map (asRead g) (callsIn D vs)
-        → (repliesIn D us ≡ repliesIn D vs) × Alike (keptAfter D (last old) us) (keptAfter D (last new) vs)
+        → (repliesIn D us ≡ repliesIn D vs) × Alike (keptAfter D (lastKept old) us) (keptAfter D (lastKept new) vs)
 
   -- 3. A fresh detector that is given the old one's accepted calls again, from any of them on, accepts them all.
   abbrev pub Acceptance : Type 0
   Acceptance =
-      (g : Settings) (d : ℕ) (old new : History D g) → FullSets (accepted old)
-      → map (asRead g) (drop d (accepted old)) ≡ map (asRead g) (callsIn D (new .made)) → accepted new ≡ callsIn D (new .made)
+      (g : Settings) (d : ℕ) (old new : History D g) → FullSets (acceptedCalls old)
+      → map (asRead g) (drop d (acceptedCalls old)) ≡ map (asRead g) (callsIn D (new .made)) → acceptedCalls new ≡ callsIn D (new .made)
 
 pub record Demand3 (D : Detector) (Alike : D .Kept → D .Kept → Type 0) : Type 0 where
   pub meeting : Meeting D Alike
