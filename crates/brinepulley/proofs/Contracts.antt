@@ -1,6 +1,5 @@
 -- What `inC` allows (specs/Histories.antt) are the contracts of the two C functions, word for word: each says just as much as the other.
 -- Assumes nothing.
-use mathlib.Core.Path.{_≡_, _∙_, sym, ap}
 use borrow.Fn.Kinds.{Dens, endedOf}
 use contract.Lifetimes.{Lfts}
 use denote.Ref.{now}

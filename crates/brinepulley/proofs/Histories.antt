@@ -47,7 +47,7 @@ c-shows = record {
   steps = λ p q c r w d. leaves-state p q c w (d .1) (d .2);
   tells = λ p q c r w d. ap notNegative (d .0 ∙ ap (λ (a : Answer Verdict). coded (decided a)) (answers p c w)) ∙ told (seen p) c;
   replies = λ p q p′ q′ c d r r′ w w′ h h′ e.
-    h .0 ∙ ap (λ (a : Answer Verdict). coded (decided a)) (answers p c w ∙ e ∙ sym (answers p′ d w′)) ∙ sym (h′ .0);
+      h .0 ∙ ap (λ (a : Answer Verdict). coded (decided a)) (answers p c w ∙ e ∙ sym (answers p′ d w′)) ∙ sym (h′ .0);
 }
 
 -- every call has such a result, and so has every fresh detector that is not refused

@@ -24,9 +24,9 @@ inC = record {
   Reply = ℤ;
   accepts = notNegative;
   Begins = λ (g : Settings) (p : Places).
-    (before : List ℕ) × (pos 0 ≡ coded (done (freshFault before (p .scores) g))) × (p .numbers ≡ freshNumbers before (p .scores) g);
+      (before : List ℕ) × (pos 0 ≡ coded (done (freshFault before (p .scores) g))) × (p .numbers ≡ freshNumbers before (p .scores) g);
   Allows = λ (p : Places) (c : Call) (r : ℤ) (q : Places).
-    (r ≡ coded (decided (lentStep (p .numbers) (p .scores) c .answer)))
-    × (q .numbers ≡ numbersAfter (lentStep (p .numbers) (p .scores) c) (p .numbers))
-    × (q .scores ≡ scoresAfter (lentStep (p .numbers) (p .scores) c) (p .scores));
+      (r ≡ coded (decided (lentStep (p .numbers) (p .scores) c .answer)))
+      × (q .numbers ≡ numbersAfter (lentStep (p .numbers) (p .scores) c) (p .numbers))
+      × (q .scores ≡ scoresAfter (lentStep (p .numbers) (p .scores) c) (p .scores));
 }

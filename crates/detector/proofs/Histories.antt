@@ -2,23 +2,20 @@
 -- detector of this crate is such a one.
 -- Assumes nothing.
 use mathlib.Core.Path.{_≡_, refl, sym, _∙_, ap}
-use mathlib.Core.Bool.{Bool, true, false, not, cond}
+use mathlib.Core.Bool.{Bool, true, false, not}
 use mathlib.Core.List.{List, [], _∷_}
-use Prim.Native.Nat.{ℕ}
-use borrow.Author.Tests.{eq-eqb, ne-eqb, eqb-true, eqb-false}
+use borrow.Author.Tests.{eq-eqb, ne-eqb, eqb-false}
 use lib.Dec.{eqb}
-use Rattle.answer.specs.Answer.{Answer}
 use Rattle.settings.specs.declared.Settings.{Settings}
 use Rattle.settings.specs.Settings.{settingsFault}
 use Rattle.state.specs.State.{View, Call, view}
 use Rattle.state.specs.Refusals.{stepFault}
 use Rattle.state.specs.declared.State.{State}
-use Rattle.detector.specs.declared.StepAnswer.{StepAnswer}
 use Rattle.detector.specs.Fresh.{Opening, freshView}
-use Rattle.detector.specs.Step.{Verdict, Outcome, isRefused, stepAnswer, stepOf}
+use Rattle.detector.specs.Step.{Outcome, isRefused, stepOf}
 use Rattle.detector.specs.Runs.{stateAfter, allAccepted}
 use Rattle.detector.specs.Histories.{Detector, Made, Follows, keptAfter, acceptedIn, byValue}
-use Rattle.detector.proofs.Cases.{step-cases, step-refused, leaves}
+use Rattle.detector.proofs.Cases.{step-cases, step-refused}
 use Rattle.detector.proofs.Unique.{answer-only}
 
 -- What is kept shows a view, as long as it is sound; a fresh one shows the fresh view, each step that is allowed is `stepOf` of the view, and what
@@ -89,5 +86,5 @@ value-shows = record {
   steps = λ s t c r u p. ap (λ (o : Outcome). o .state) (p .0);
   tells = λ s t c r u p. ap (λ (o : Outcome). not (isRefused (o .answer))) (p .0) ∙ decided-is (view s) c;
   replies = λ s t s′ t′ c d r q u u′ p p′ e.
-    answer-only r q (ap (λ (o : Outcome). o .answer) (p .0) ∙ e ∙ sym (ap (λ (o : Outcome). o .answer) (p′ .0)));
+      answer-only r q (ap (λ (o : Outcome). o .answer) (p .0) ∙ e ∙ sym (ap (λ (o : Outcome). o .answer) (p′ .0)));
 }

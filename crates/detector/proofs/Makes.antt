@@ -19,7 +19,7 @@ use Rattle.state.specs.State.{View, Call, view}
 use Rattle.state.specs.Refusals.{stepFault}
 use Rattle.state.specs.declared.State.{State}
 use Rattle.detector.specs.declared.StepAnswer.{StepAnswer}
-use Rattle.detector.specs.Fresh.{Opening, freshView, openedOf}
+use Rattle.detector.specs.Fresh.{freshView}
 use Rattle.detector.specs.Step.{Verdict, Outcome, isRefused, stepAnswer, stepOf}
 use Rattle.detector.specs.Histories.{Detector, Made, Follows, acceptedIn, History, byValue}
 use Rattle.detector.proofs.Cases.{leaves, step-refused}

@@ -7,8 +7,6 @@ use Rattle.settings.specs.declared.Settings.{Settings}
 use Rattle.state.specs.State.{Call, view}
 use Rattle.state.specs.declared.State.{State}
 use Rattle.detector.specs.declared.StepAnswer.{StepAnswer}
-use Rattle.detector.specs.declared.Stepped.{Stepped}
-use Rattle.detector.specs.declared.Opened.{Opened}
 use Rattle.detector.specs.Fresh.{opened, openedOf}
 use Rattle.detector.specs.Step.{stepAnswer, isRefused, outcome, HandsBack, stepOf}
 
@@ -77,5 +75,5 @@ byValue = record {
   accepts = λ (a : StepAnswer). not (isRefused (stepAnswer a));
   Begins = λ (g : Settings) (s : State). opened (record { fault = 0; state = s }) ≡ openedOf g;
   Allows = λ (s : State) (c : Call) (a : StepAnswer) (t : State).
-    (outcome (record { answer = a; state = t }) ≡ stepOf (view s) c) × HandsBack (record { answer = a; state = t }) s;
+      (outcome (record { answer = a; state = t }) ≡ stepOf (view s) c) × HandsBack (record { answer = a; state = t }) s;
 }

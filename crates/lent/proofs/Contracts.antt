@@ -1,6 +1,5 @@
 -- What `byPlaces` allows (specs/Histories.antt) are the contracts of `fresh` and `step`, word for word: each says just as much as the other.
 -- Assumes nothing.
-use mathlib.Core.Path.{_≡_}
 use borrow.Fn.Kinds.{Dens, endedOf}
 use contract.Lifetimes.{Lfts}
 use denote.Ref.{now}

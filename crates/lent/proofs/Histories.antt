@@ -2,12 +2,12 @@
 -- stay a state. And places that show the same but for two numbers are the same to whoever reads them.
 -- Assumes nothing.
 use mathlib.Core.Path.{_≡_, refl, sym, _∙_, ap}
-use mathlib.Core.Bool.{Bool, true, false, not}
+use mathlib.Core.Bool.{true, false, not}
 use mathlib.Core.List.{List, [], _∷_, _++_}
 use mathlib.Core.Option.{Option, none, some}
 use Prim.Native.Nat.{ℕ, zero, suc, _+_, _*_, _≤_, _<_}
 use native.Mathlib.Omega.{arith}
-use borrow.Author.Tests.{eqb-true, eqb-false, eq-eqb, not-false}
+use borrow.Author.Tests.{eqb-true, eqb-false, not-false}
 use lib.Dec.{eqb}
 use lib.Ieee.{Float, nan}
 use lib.ListN.{length, take, drop, getD, length-append, length-drop, length-take, drop-of-length-le}
@@ -23,9 +23,8 @@ use Rattle.state.specs.State.{View, Call}
 use Rattle.state.specs.Refusals.{stateFault, stepFault}
 use Rattle.state.proofs.Tests.{and-both}
 use Rattle.state.proofs.Well.{well}
-use Rattle.detector.specs.declared.StepAnswer.{StepAnswer}
 use Rattle.detector.specs.Fresh.{freshView}
-use Rattle.detector.specs.Step.{Verdict, Outcome, isRefused, stepAnswer, stepOf}
+use Rattle.detector.specs.Step.{Verdict, Outcome, isRefused, stepOf}
 use Rattle.detector.specs.Runs.{compared}
 use Rattle.detector.proofs.Cases.{step-refused}
 use Rattle.detector.proofs.Left.{entries-few}
@@ -33,7 +32,7 @@ use Rattle.detector.proofs.Reach.{fresh-passes, step-passes}
 use Rattle.detector.proofs.Unique.{answerBy, answer-only}
 use Rattle.detector.proofs.Histories.{Shows, decided-is}
 use Rattle.detector.proofs.Makes.{Makes, answer-back}
-use Rattle.lent.specs.Places.{settingsLong, callLong, numbersLong, scoreLong, scoresLong, isState, frontScore, scoresOf, entriesOf, stateOf, settingNumbers, callNumbers, doubles, placed}
+use Rattle.lent.specs.Places.{settingsLong, numbersLong, scoreLong, scoresLong, isState, frontScore, scoresOf, stateOf, settingNumbers, callNumbers, doubles, placed}
 use Rattle.lent.specs.Lent.{freshFault, freshNumbers, lentStep, numbersAfter, scoresAfter}
 use Rattle.lent.specs.Histories.{Places, byPlaces, offsetPlace, countPlace, numberAt, doubleAt, comparedNumbers, SamePlaces}
 use Rattle.lent.proofs.Sizes.{both}
@@ -223,6 +222,6 @@ module _ (p q : Places) (w : Sound p) (u : Sound q) (e : compared (seen p) ≡ c
     numbers = numbers-shown p w ∙ ap shown e ∙ sym (numbers-shown q u);
     scores = same-double;
     decided = λ j h l.
-      let o = well (seen p) (w .1) .within (omega (arith, entries-counted)) in
-      same-double (numberAt offsetPlace p) j (omega (arith, entries-counted)) l ∙ ap (λ (n : ℕ). doubleAt n j q) (ap (λ (s : View). s .offset) e);
+        let o = well (seen p) (w .1) .within (omega (arith, entries-counted)) in
+        same-double (numberAt offsetPlace p) j (omega (arith, entries-counted)) l ∙ ap (λ (n : ℕ). doubleAt n j q) (ap (λ (s : View). s .offset) e);
   }

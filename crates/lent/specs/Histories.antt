@@ -25,11 +25,11 @@ byPlaces = record {
   Reply = StepAnswer;
   accepts = λ (a : StepAnswer). not (isRefused (stepAnswer a));
   Begins = λ (g : Settings) (p : Places).
-    (before : List ℕ) × (0 ≡ freshFault before (p .scores) g) × (p .numbers ≡ freshNumbers before (p .scores) g);
+      (before : List ℕ) × (0 ≡ freshFault before (p .scores) g) × (p .numbers ≡ freshNumbers before (p .scores) g);
   Allows = λ (p : Places) (c : Call) (a : StepAnswer) (q : Places).
-    (stepAnswer a ≡ lentStep (p .numbers) (p .scores) c .answer)
-    × (q .numbers ≡ numbersAfter (lentStep (p .numbers) (p .scores) c) (p .numbers))
-    × (q .scores ≡ scoresAfter (lentStep (p .numbers) (p .scores) c) (p .scores));
+      (stepAnswer a ≡ lentStep (p .numbers) (p .scores) c .answer)
+      × (q .numbers ≡ numbersAfter (lentStep (p .numbers) (p .scores) c) (p .numbers))
+      × (q .scores ≡ scoresAfter (lentStep (p .numbers) (p .scores) c) (p .scores));
 }
 
 -- ---- what of two pairs of places demand 3 compares

@@ -12,9 +12,10 @@ use Rattle.state.specs.Refusals.{stepFault}
 use Rattle.state.proofs.Fine.{unread}
 use Rattle.detector.specs.Rules.{measureOf}
 use Rattle.detector.specs.Step.{Outcome, stepOf}
-use Rattle.detector.specs.Runs.{compared}
+use Rattle.detector.specs.Runs.{compared, stateAfter}
+use Rattle.detector.proofs.Left.{settings-kept}
 use Rattle.detector.proofs.Views.{Alike, alike, unread-blind}
-use Rattle.meeting.specs.Meeting.{asRead, itemIn}
+use Rattle.meeting.specs.Calls.{asRead, Agree, FullSets}
 use Rattle.meeting.proofs.ClosedForm.{span, Item, itemAt, scoredThen, lastCall}
 
 -- ---- what they score
@@ -73,11 +74,39 @@ same-step g s t c d p q e r =
     let x : stepOf s (asRead g d) ≡ stepOf s c
     = ap (stepOf s) (sym r) ∙ ap (λ (h : Settings). stepOf s (asRead h c)) (sym p) ∙ step-as-read s c in
     let y : stepOf t (asRead g d) ≡ stepOf t d = ap (λ (h : Settings). stepOf t (asRead h d)) (sym q) ∙ step-as-read t d in
-    let z = alike s t (asRead g d) e in
-    (sym (ap (λ (o : Outcome). o .answer) x) ∙ z .0 ∙ ap (λ (o : Outcome). o .answer) y,
-     sym (ap (λ (o : Outcome). compared (o .state)) x) ∙ z .1 ∙ ap (λ (o : Outcome). compared (o .state)) y)
+    let z = alike s t (asRead g d) e in (
+      sym (ap (λ (o : Outcome). o .answer) x) ∙ z .0 ∙ ap (λ (o : Outcome). o .answer) y,
+      sym (ap (λ (o : Outcome). compared (o .state)) x) ∙ z .1 ∙ ap (λ (o : Outcome). compared (o .state)) y,
+    )
 
 pub same-fault : (g : Settings) (s : View) (c d : Call) → s .settings ≡ g → asRead g c ≡ asRead g d → stepFault s c ≡ stepFault s d
 same-fault g s c d p r =
     sym (fault-as-read s c) ∙ ap (λ (h : Settings). stepFault s (asRead h c)) p ∙ ap (stepFault s) r
     ∙ ap (λ (h : Settings). stepFault s (asRead h d)) (sym p) ∙ fault-as-read s d
+
+-- what calls leave that are the same as read
+pub same-after : (g : Settings) (s t : View) (cs ds : List Call) → s .settings ≡ g → t .settings ≡ g → compared s ≡ compared t
+    → map (asRead g) cs ≡ map (asRead g) ds → compared (stateAfter s cs) ≡ compared (stateAfter t ds)
+unfolding stateAfter
+same-after g s t [] [] p q e r = e
+same-after g s t [] (d ∷ ds) p q e r = absurd (nil≢cons r)
+same-after g s t (c ∷ cs) [] p q e r = absurd (nil≢cons (sym r))
+same-after g s t (c ∷ cs) (d ∷ ds) p q e r =
+    same-after g (stepOf s c .state) (stepOf t d .state) cs ds (settings-kept s c ∙ p) (settings-kept t d ∙ q)
+    (same-step g s t c d p q e (head-eq-of-cons-eq r) .1) (tail-eq-of-cons-eq r)
+
+-- ---- what is asked of them
+
+pub same-full : (g : Settings) (cs ds : List Call) → map (asRead g) cs ≡ map (asRead g) ds → FullSets cs → FullSets ds
+same-full g [] [] e f = tt
+same-full g [] (d ∷ ds) e f = absurd (nil≢cons e)
+same-full g (c ∷ cs) [] e f = tt
+same-full g (c ∷ cs) (d ∷ ds) e f =
+    let size : c .setLength ≡ d .setLength = ap (λ (x : Call). x .setLength) (head-eq-of-cons-eq e) in
+    (rw size at (f .0), same-full g cs ds (tail-eq-of-cons-eq e) (f .1))
+
+pub same-agree : (g : Settings) (c y z : Call) → asRead g y ≡ asRead g z → Agree g c y → Agree g c z
+same-agree g c y z e a j k h l n =
+    let size : y .setLength ≡ z .setLength = ap (λ (x : Call). x .setLength) e in
+    let number : y .number ≡ z .number = ap (λ (x : Call). x .number) e in
+    a j k h (rw size l) (rw number n) ∙ ap (λ (i : Item). i .measure) (same-item g y z k e)

@@ -17,15 +17,11 @@ use Rattle.score.specs.Deque.{trimmedTo}
 use Rattle.score.specs.Scores.{zeroF, forwardOf, withForward, updatedFrom, updatedOf, scoreOf}
 use Rattle.score.proofs.Walk.{backward-walk}
 use Rattle.score.proofs.Update.{update-take}
+use Rattle.meeting.proofs.Lists.{take-map}
 use Rattle.meeting.proofs.ClosedForm.{span, Item, cost, forwardFrom, entryOf, closedEntriesOf}
 
 abbrev inter : ScenecutResult → Float
 inter e = e .«inter_cost»
-
-take-map : {A B : Type 0} (f : A → B) (n : ℕ) (l : List A) → take n (map f l) ≡ map f (take n l)
-take-map f zero l = refl
-take-map f (suc n) [] = refl
-take-map f (suc n) (x ∷ l) = ap (λ (r : List _). f x ∷ r) (take-map f n l)
 
 -- ---- the update adds one later pair
 

@@ -13,7 +13,7 @@ use Rattle.score.specs.declared.Measure.{Measure}
 use Rattle.score.specs.Deque.{scoreFrom}
 use Rattle.score.specs.Scores.{zeroF, maxF, walkBack, forwardOf, fastScore}
 use Rattle.state.specs.State.{View, Call}
-use Rattle.meeting.specs.Meeting.{itemIn}
+use Rattle.meeting.specs.Calls.{itemIn}
 
 -- how many pairs on each side an adjusted cost is taken over: o, which is A
 abbrev pub span : ℕ

@@ -4,7 +4,7 @@
 use mathlib.Core.Path.{_≡_, refl, sym, _∙_, ap}
 use mathlib.Core.Bool.{true, false}
 use mathlib.Core.List.{List, [], _∷_, _++_, map, nil≢cons, head-eq-of-cons-eq, tail-eq-of-cons-eq}
-use Prim.Native.Nat.{ℕ, _≤_}
+use Prim.Native.Nat.{ℕ}
 use lib.ListN.{take, drop, take-append-drop}
 use Rattle.settings.specs.declared.Settings.{Settings}
 use Rattle.state.specs.State.{View, Call, view}
@@ -21,8 +21,8 @@ use Rattle.lent.specs.Histories.{byPlaces, SamePlaces}
 use Rattle.lent.proofs.Histories.{places-show, same-places}
 use Rattle.brinepulley.specs.Histories.{inC}
 use Rattle.brinepulley.proofs.Histories.{c-shows}
-use Rattle.meeting.specs.Meeting.{asRead, fullSet, Restart, Acceptance, Demand3, SameState}
-use Rattle.meeting.proofs.Alls.{all-parts}
+use Rattle.meeting.specs.Calls.{asRead}
+use Rattle.meeting.specs.Meeting.{Restart, Acceptance, Demand3, SameState}
 use Rattle.meeting.proofs.AsRead.{same-step}
 use Rattle.meeting.proofs.Meets.{calls-meet}
 use Rattle.meeting.proofs.Takes.{Behind, takes}
@@ -76,7 +76,6 @@ module _ (D : Detector) (S : Shows D) where
       let cs = acceptedIn D (old .made) in
       let split : take d cs ++ drop d cs ≡ cs = take-append-drop d cs in
       let parts = accepted-parts (freshView g) (take d cs) (drop d cs) (rw split (left g old .1)) in
-      let sizes = all-parts (λ (c : Call). fullSet ≤ c .setLength) (take d cs) (drop d cs) (rw split full) .1 in
       let behind : Behind g (stateAfter (freshView g) (take d cs)) (S .seen (new .begun)) = rw (b .1) (record {
         settings = settings-after (freshView g) (take d cs);
         also = refl;
@@ -84,7 +83,7 @@ module _ (D : Detector) (S : Shows D) where
         number = λ h. absurd (h refl);
         size = λ h. absurd (h refl);
       }) in
-      takes D S g (stateAfter (freshView g) (take d cs)) (new .begun) (drop d cs) (new .made) behind (parts .1) sizes (b .0) (new .follows) same
+      takes D S g (stateAfter (freshView g) (take d cs)) (new .begun) (drop d cs) (new .made) behind (parts .1) full (b .0) (new .follows) same
 
   -- all three, where states that show the same but for the two numbers are alike
   pub demand3 : (Alike : D .Kept → D .Kept → Type 0)
@@ -92,8 +91,8 @@ module _ (D : Detector) (S : Shows D) where
   demand3 Alike alike = record {
     meeting = λ g d old new r. alike _ _ (sound g old) (sound g new) (met g d old new r);
     stayMet = λ g d old new r us vs f h same.
-      let w = stay g _ _ us vs (sound g old) (sound g new) (settled g old) (settled g new) (met g d old new r) f h same in
-      (w .0, alike _ _ (sound-after D S _ us (sound g old) f) (sound-after D S _ vs (sound g new) h) (w .1));
+        let w = stay g _ _ us vs (sound g old) (sound g new) (settled g old) (settled g new) (met g d old new r) f h same in
+        (w .0, alike _ _ (sound-after D S _ us (sound g old) f) (sound-after D S _ vs (sound g new) h) (w .1));
     acceptance = accepts-all;
   }
 

@@ -1,4 +1,4 @@
-pub mod Alls
+pub mod Lists
 pub mod ClosedForm
 pub mod Closed
 pub mod AsRead

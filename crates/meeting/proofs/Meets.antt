@@ -4,36 +4,31 @@
 use mathlib.Core.Path.{_≡_, refl, sym, _∙_, ap}
 use mathlib.Core.Bool.{Bool, true, false}
 use mathlib.Core.List.{List, [], _∷_, _++_, map, nil≢cons, head-eq-of-cons-eq, tail-eq-of-cons-eq}
-use Prim.Native.Nat.{ℕ, zero, suc, _+_, _-_, _≤_, _<_}
+use Prim.Native.Nat.{ℕ, zero, suc, _+_, _-_, _≤_}
 use native.Mathlib.Omega.{arith}
 use borrow.Author.Tests.{eqb-true}
 use lib.Dec.{eqb}
-use lib.ListN.{length, take, drop, take-append-drop}
-use lib.Seq.{take-take}
+use lib.ListN.{length, take, drop, take-append-drop, length-take}
+use lib.Seq.{drop-drop}
 use Rattle.settings.specs.declared.Settings.{Settings}
 use Rattle.settings.specs.Settings.{normalLookahead, isNone, isFast, fastThreshold}
-use Rattle.score.specs.declared.ScenecutResult.{ScenecutResult}
-use Rattle.state.specs.State.{View, Call, view}
+use Rattle.state.specs.State.{Call}
 use Rattle.state.specs.Refusals.{stepFault}
 use Rattle.state.proofs.Tests.{and-both}
 use Rattle.state.proofs.Fine.{fine}
 use Rattle.detector.specs.Fresh.{freshView}
 use Rattle.detector.specs.Step.{stepOf}
 use Rattle.detector.specs.Runs.{stateAfter, allAccepted, compared}
-use Rattle.detector.specs.Histories.{Detector, Made, Follows, keptAfter, callsIn, acceptedIn, repliesIn, History, byValue}
 use Rattle.detector.proofs.Cases.{leaves}
-use Rattle.detector.proofs.Left.{settings-kept}
-use Rattle.detector.proofs.Reach.{fresh-passes}
-use Rattle.detector.proofs.Account.{accepted-parts, settings-after}
-use Rattle.detector.proofs.Histories.{Shows, sound-after, history-leaves, value-shows}
-use Rattle.meeting.specs.Meeting.{asRead, itemIn, Agree, All, callsToMeet, fullSet, FullSets, Restart, Meeting, StayMet, Acceptance, Demand3, SameState}
-use Rattle.meeting.proofs.Alls.{all-parts, all-so}
+use Rattle.detector.proofs.Account.{after-parts, accepted-parts, settings-after}
+use Rattle.meeting.specs.Calls.{asRead, Agree, All, OneMeasurement, fullSet, FullSets}
+use Rattle.meeting.specs.Meeting.{callsToMeet, Restart}
+use Rattle.meeting.proofs.Lists.{same-take, same-drop, drop-taken, all-parts, all-so}
 use Rattle.meeting.proofs.ClosedForm.{span, keeps, Item, itemAt, firstItems, scoredThen, lastCall, closedEntriesOf, closedDeque, stateWith}
 use Rattle.meeting.proofs.Closed.{pairsNeeded, local}
-use Rattle.meeting.proofs.AsRead.{same-item, same-scored, same-last, same-step}
+use Rattle.meeting.proofs.AsRead.{same-item, same-scored, same-last, same-after, same-full, same-agree}
 use Rattle.meeting.proofs.Settle.{calls-closed}
 use Rattle.meeting.proofs.Newest.{scored-parts, scored-front, scored-long, take-behind, InTurn, in-turn, newest-same}
-use Rattle.meeting.proofs.Takes.{Behind, takes}
 
 -- ---- 1. the states meet
 
@@ -115,26 +110,49 @@ module _ (g : Settings) (x y z : Call) (xs ys zs : List Call) (first : asRead g 
       ∙ ap (λ (c : Call). stateWith g c (closedDeque g newPairs)) calls
       ∙ sym (calls-closed g mode ahead z zs u sizes)
 
--- of any accepted calls
+-- of calls that are full, each pair measured once, and no more than are needed
+first-meet : (g : Settings) (d : ℕ) (old new : List Call) → isNone g ≡ false → normalLookahead ≤ g .«lookahead_distance»
+    → OneMeasurement g old → FullSets old → map (asRead g) (drop d old) ≡ map (asRead g) new → callsToMeet (isFast g) ≤ length new
+    → allAccepted (freshView g) old ≡ true → allAccepted (freshView g) new ≡ true
+    → compared (stateAfter (freshView g) old) ≡ compared (stateAfter (freshView g) new)
+first-meet g zero old new mode ahead one full same h t u = same-after g (freshView g) (freshView g) old new refl refl refl same
+first-meet g (suc d) old [] mode ahead one full same h t u = absurd (some-calls (isFast g) h)
+first-meet g (suc d) [] (z ∷ zs) mode ahead one full same h t u = absurd (nil≢cons same)
+first-meet g (suc d) (x ∷ old) (z ∷ zs) mode ahead one full same h t u = by (drop d old) refl
+  where
+    by : (after : List Call) → drop d old ≡ after → compared (stateAfter (freshView g) (x ∷ old)) ≡ compared (stateAfter (freshView g) (z ∷ zs))
+    by [] e = absurd (nil≢cons (sym (ap (map (asRead g)) e) ∙ same))
+    by (y ∷ ys) e =
+        let equal = sym (ap (map (asRead g)) e) ∙ same in
+        let split : old ≡ take d old ++ (y ∷ ys) = sym (take-append-drop d old) ∙ ap (λ (l : List Call). take d old ++ l) e in
+        let sizes = all-parts (λ (c : Call). fullSet ≤ c .setLength) (x ∷ take d old) (y ∷ ys) (rw split at full) .1 in
+        let agree : All (λ (c : Call). Agree g c z) (x ∷ old)
+        = all-so (λ (c : Call). All (Agree g c) (x ∷ old)) (λ (c : Call). Agree g c z)
+        (λ c a. same-agree g c y z (head-eq-of-cons-eq equal) (all-parts (Agree g c) (x ∷ take d old) (y ∷ ys) (rw split at a) .1 .0)) (x ∷ old) one in
+        states-meet g x y z (take d old) ys zs (head-eq-of-cons-eq equal) (tail-eq-of-cons-eq equal) mode ahead old split t u agree full
+        (same-full g (y ∷ ys) (z ∷ zs) equal sizes) h
+
+-- of any accepted calls: they meet after the first of them, and stay so
 pub calls-meet : (g : Settings) (d : ℕ) (old new : List Call) → Restart g d old new
     → allAccepted (freshView g) old ≡ true → allAccepted (freshView g) new ≡ true
     → compared (stateAfter (freshView g) old) ≡ compared (stateAfter (freshView g) new)
-calls-meet g zero old new r t u = absurd (omega (arith, r .later))
-calls-meet g (suc d) old [] r t u = absurd (some-calls (isFast g) (r .enough))
-calls-meet g (suc d) [] (z ∷ zs) r t u = absurd (nil≢cons (r .same))
-calls-meet g (suc d) (x ∷ old) (z ∷ zs) r t u = by (drop d old) refl
-  where
-    agree : All (λ (c : Call). Agree g c z) (x ∷ old)
-    agree =
-        all-so (λ (c : Call). All (Agree g c) ((x ∷ old) ++ (z ∷ zs))) (λ (c : Call). Agree g c z)
-        (λ c a. all-parts (Agree g c) (x ∷ old) (z ∷ zs) a .1 .0) (x ∷ old)
-        (all-parts (λ (c : Call). All (Agree g c) ((x ∷ old) ++ (z ∷ zs))) (x ∷ old) (z ∷ zs) (r .measured) .0)
-
-    by : (after : List Call) → drop d old ≡ after → compared (stateAfter (freshView g) (x ∷ old)) ≡ compared (stateAfter (freshView g) (z ∷ zs))
-    by [] e = absurd (nil≢cons (sym (ap (map (asRead g)) e) ∙ r .same))
-    by (y ∷ ys) e =
-        let same = sym (ap (map (asRead g)) e) ∙ r .same in
-        let split : old ≡ take d old ++ (y ∷ ys) = sym (take-append-drop d old) ∙ ap (λ (l : List Call). take d old ++ l) e in
-        let sizes = all-parts (λ (c : Call). fullSet ≤ c .setLength) (x ∷ old) (z ∷ zs) (r .full) in
-        states-meet g x y z (take d old) ys zs (head-eq-of-cons-eq same) (tail-eq-of-cons-eq same) (r .mode) (r .lookahead) old split t u agree
-        (sizes .0) (sizes .1) (r .enough)
+calls-meet g d old new r t u =
+    let n = callsToMeet (isFast g) in
+    let first = take (d + n) old in
+    let again = take n new in
+    let old-is : old ≡ first ++ drop (d + n) old = sym (take-append-drop (d + n) old) in
+    let new-is : new ≡ again ++ drop n new = sym (take-append-drop n new) in
+    let equal : map (asRead g) (drop d first) ≡ map (asRead g) again
+    = ap (map (asRead g)) (drop-taken d n old) ∙ same-take (asRead g) n (drop d old) new (r .same) in
+    let further : map (asRead g) (drop (d + n) old) ≡ map (asRead g) (drop n new)
+    = ap (map (asRead g)) (sym (drop-drop n d old)) ∙ same-drop (asRead g) n (drop d old) new (r .same) in
+    let long : n ≤ length again = omega (arith, length-take n new, r .enough) in
+    let both = accepted-parts (freshView g) first (drop (d + n) old) (rw old-is at t) in
+    let other = accepted-parts (freshView g) again (drop n new) (rw new-is at u) in
+    let met = first-meet g d first again (r .mode) (r .lookahead) (r .measured) (r .full) equal long (both .0) (other .0) in
+    ap (λ (l : List Call). compared (stateAfter (freshView g) l)) old-is
+    ∙ ap compared (after-parts (freshView g) first (drop (d + n) old))
+    ∙ same-after g (stateAfter (freshView g) first) (stateAfter (freshView g) again) (drop (d + n) old) (drop n new)
+    (settings-after (freshView g) first) (settings-after (freshView g) again) met further
+    ∙ sym (ap compared (after-parts (freshView g) again (drop n new)))
+    ∙ sym (ap (λ (l : List Call). compared (stateAfter (freshView g) l)) new-is)

@@ -8,7 +8,7 @@ use Prim.Native.Nat.{ℕ, zero, suc, _+_, _-_, _≤_, _<_}
 use native.Mathlib.Omega.{arith}
 use borrow.Author.Tests.{eqb-true}
 use lib.Dec.{eqb}
-use lib.ListN.{length, take, length-append}
+use lib.ListN.{length, take}
 use lib.Seq.{take-take}
 use Rattle.settings.specs.declared.Settings.{Settings}
 use Rattle.state.specs.State.{View, Call}
@@ -18,7 +18,7 @@ use Rattle.state.proofs.Fine.{fine}
 use Rattle.detector.specs.Step.{stepOf}
 use Rattle.detector.specs.Runs.{allAccepted}
 use Rattle.detector.proofs.Cases.{leaves}
-use Rattle.meeting.specs.Meeting.{Agree, All, fullSet, FullSets}
+use Rattle.meeting.specs.Calls.{Agree, All, fullSet, FullSets}
 use Rattle.meeting.proofs.ClosedForm.{span, Item, itemAt, firstItems, scoredThen, lastCall}
 use Rattle.meeting.proofs.Settle.{first-long}
 

@@ -23,7 +23,7 @@ use Rattle.detector.specs.Runs.{compared, stateAfter, allAccepted}
 use Rattle.detector.specs.Fresh.{freshView}
 use Rattle.detector.proofs.Cases.{step-scored}
 use Rattle.detector.proofs.Views.{fault-blind, step-blind}
-use Rattle.meeting.specs.Meeting.{itemIn, fullSet, FullSets}
+use Rattle.meeting.specs.Calls.{itemIn, fullSet, FullSets}
 use Rattle.meeting.proofs.ClosedForm.{span, keeps, Item, itemAt, firstItems, scoredThen, lastCall, closedEntriesOf, closedDeque, stateWith}
 use Rattle.meeting.proofs.Closed.{score-entries, score-take, entries-long, trim}
 

@@ -4,7 +4,7 @@
 use mathlib.Core.Path.{_≡_, refl, sym, _∙_, ap}
 use mathlib.Core.Bool.{true}
 use mathlib.Core.List.{List, [], _∷_, map, nil≢cons, head-eq-of-cons-eq, tail-eq-of-cons-eq}
-use Prim.Native.Nat.{ℕ, _≤_}
+use Prim.Native.Nat.{_≤_}
 use native.Mathlib.Omega.{arith}
 use borrow.Author.Tests.{eqb-true, eq-eqb}
 use lib.Dec.{eqb}
@@ -21,7 +21,7 @@ use Rattle.detector.proofs.Cases.{leaves}
 use Rattle.detector.proofs.Reach.{step-passes}
 use Rattle.detector.proofs.Left.{settings-kept}
 use Rattle.detector.proofs.Histories.{Shows}
-use Rattle.meeting.specs.Meeting.{asRead, fullSet, FullSets}
+use Rattle.meeting.specs.Calls.{asRead, fullSet, FullSets}
 use Rattle.meeting.proofs.AsRead.{same-fault}
 
 -- a state that passes 11 and has no last call, or the same one

@@ -11,7 +11,6 @@ use native.Mathlib.Omega.{arith}
 use lib.Dec.{eqb}
 use lib.IntN.{pos}
 use lib.Ieee.{Float, binary64, nan, ofBits, ofInt, sub, mul, div, lt, le, eq}
-use lib.ListN.{replicate}
 use Rattle.answer.specs.Refusal.{_orElse_}
 use Rattle.answer.specs.Answer.{answered}
 use Rattle.sums.specs.Table.{table}
@@ -19,7 +18,7 @@ use Rattle.sums.proofs.TableLaws.{table-at}
 use Rattle.plane.specs.Planes.{badSide, depthFault}
 use Rattle.scale.specs.Scale.{sizeFault, factorBy, scaleOf, modeFast, modeStandard}
 use Rattle.settings.specs.declared.Settings.{Settings}
-use Rattle.settings.specs.Settings.{normalLookahead, isFast, isScaled, fastThreshold, settingsFault}
+use Rattle.settings.specs.Settings.{normalLookahead, isScaled, fastThreshold, settingsFault}
 use Rattle.score.specs.declared.Measure.{Measure}
 use Rattle.score.specs.Search.{anyOf}
 use Rattle.score.specs.Scores.{zeroF, walkBack, backwardOf}
@@ -37,8 +36,9 @@ use Rattle.lent.proofs.Sizes.{fresh-state}
 use Rattle.lent.proofs.Histories.{freshPlaces}
 use Rattle.brinepulley.specs.Histories.{inC}
 use Rattle.brinepulley.proofs.Histories.{c-shows, c-makes, c-begins}
-use Rattle.meeting.specs.Meeting.{itemIn, Agree, All, fullSet, Restart, SameState}
-use Rattle.meeting.proofs.Alls.{all-both, all-so}
+use Rattle.meeting.specs.Calls.{itemIn, Agree, All, fullSet}
+use Rattle.meeting.specs.Meeting.{Restart, SameState}
+use Rattle.meeting.proofs.Lists.{all-so}
 use Rattle.meeting.proofs.Demand3.{value-demand3, c-demand3}
 
 -- ---- a film, every pair alike but two, and calls of seven frames over it
@@ -138,14 +138,8 @@ unfolding callsFrom
 from-all P f p a zero = tt
 from-all P f p a (suc j) = (p a, from-all P f p (suc a) j)
 
--- the accepted calls of both
-abbrev bothAccepted : (ℕ → Call) → (ℕ → Call) → (ℕ → Call) → ℕ → List Call
-bothAccepted early late new j = oldAccepted early late j ++ callsFrom new 3 (4 + j)
-
-both-all : (P : Call → Type 0) (early late new : ℕ → Call) (j : ℕ) → ((n : ℕ) → P (early n)) → ((n : ℕ) → P (late n)) → ((n : ℕ) → P (new n))
-    → All P (bothAccepted early late new j)
-both-all P early late new j p q r =
-    all-both P (oldAccepted early late j) (callsFrom new 3 (4 + j)) (p 1, (p 2, from-all P late q 3 (4 + j))) (from-all P new r 3 (4 + j))
+old-all : (P : Call → Type 0) (early late : ℕ → Call) (j : ℕ) → ((n : ℕ) → P (early n)) → ((n : ℕ) → P (late n)) → All P (oldAccepted early late j)
+old-all P early late j p q = (p 1, (p 2, from-all P late q 3 (4 + j)))
 
 abbrev standardPairs : ℕ → Measure
 standardPairs q = record { inter = cost q; importance = whole q; threshold = whole q }
@@ -166,11 +160,10 @@ unfolding callsFrom
 standard-calls = record {
   mode = refl;
   lookahead = omega arith;
-  measured = film-agrees standard standardPairs (bothAccepted earlyStandard lateStandard lateStandard 6)
-    (both-all (OfFilm standard standardPairs) earlyStandard lateStandard lateStandard 6 (λ n. standard-film n n) (standard-film 0) (standard-film 0));
-  later = omega arith;
+  measured = film-agrees standard standardPairs (oldAccepted earlyStandard lateStandard 6)
+      (old-all (OfFilm standard standardPairs) earlyStandard lateStandard 6 (λ n. standard-film n n) (standard-film 0));
   same = refl;
-  full = both-all (λ (c : Call). fullSet ≤ c .setLength) earlyStandard lateStandard lateStandard 6 (λ n. omega arith) (λ n. omega arith) (λ n. omega arith);
+  full = old-all (λ (c : Call). fullSet ≤ c .setLength) earlyStandard lateStandard 6 (λ n. omega arith) (λ n. omega arith);
   enough = omega arith;
 }
 
@@ -179,11 +172,10 @@ unfolding callsFrom
 fast-calls = record {
   mode = refl;
   lookahead = omega arith;
-  measured = film-agrees fast fastPairs (bothAccepted earlyFast oldFast newFast 1)
-    (both-all (OfFilm fast fastPairs) earlyFast oldFast newFast 1 (λ n. fast-film [] n n) (fast-film [] 0) (fast-film (nan ∷ []) 0));
-  later = omega arith;
+  measured = film-agrees fast fastPairs (oldAccepted earlyFast oldFast 1)
+      (old-all (OfFilm fast fastPairs) earlyFast oldFast 1 (λ n. fast-film [] n n) (fast-film [] 0));
   same = refl;
-  full = both-all (λ (c : Call). fullSet ≤ c .setLength) earlyFast oldFast newFast 1 (λ n. omega arith) (λ n. omega arith) (λ n. omega arith);
+  full = old-all (λ (c : Call). fullSet ≤ c .setLength) earlyFast oldFast 1 (λ n. omega arith) (λ n. omega arith);
   enough = omega arith;
 }
 
