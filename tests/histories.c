@@ -39,7 +39,7 @@ bool one_in(uint32_t many)
 static double draw_inter(uint32_t kind, bool peak)
 {
     static const double edges[] = {0.0, -0.0, 5e-324, DBL_MIN, 1e-9, 7, 17.999999999999996, 18, 1e18, DBL_MAX / 2, DBL_MAX};
-    if (kind == EDGES || one_in(32))
+    if (kind == EDGES || one_in(64))
         return edges[draw(COUNT_OF(edges))];
     if (kind == TIES)
         return 10.0 * draw(4);

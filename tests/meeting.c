@@ -8,7 +8,17 @@
 
 enum { PAIRS = 5000 }; /* in each mode */
 enum { STANDARD_CALLS = 10, FAST_CALLS = 5 };
-enum { MOST_BEFORE = 30, FURTHER = 20, LEAST_SET = 7, GUARD_WORDS = 8 };
+enum { MOST_BEFORE = 30, FURTHER = 20, SHORTEST_SET = 7, KEPT = 10, GUARD_WORDS = 8, LAST_REFUSAL = 10 };
+
+/* What the pairs of each mode must bring, so that the test can fail: half of what they bring (docs/RUNS.md), or less. */
+enum {
+    LEAST_REFUSED = 10000, /* calls refused with each of 7, 8, 10: so that states would part if one of them wrote */
+    LEAST_APART = 500,     /* Standard pairs that nine calls do not bring together: so that ten are needed */
+    LEAST_OTHER_NANS = 500, /* Standard pairs that meet with NaNs of other bits: so that these bits are seen not to matter */
+    LEAST_CUTS = 200,      /* cuts behind the meeting, and calls without one, that the distance did not decide: so that the */
+    LEAST_NO_CUTS = 10000, /* scores did, and an answer that came from before the meeting would show */
+    LEAST_ENDS = 100       /* pairs that come to the last number, 2^32 - 1 */
+};
 
 _Static_assert(MOST_BEFORE + STANDARD_CALLS + FURTHER + BRINE_SET_LIMIT < FILM_PAIRS, "the film is long enough");
 
@@ -32,10 +42,11 @@ static uint32_t mode;
 
 /* What was seen, over all pairs of a mode. */
 static struct {
-    size_t refused[BRINE_SET_LIMIT]; /* by number */
-    size_t apart;                    /* pairs that had not met one call before they must */
-    size_t firsts, releases;         /* pairs that met with other first numbers, with other release numbers */
-    size_t cuts, no_cuts;            /* further calls that the decision rule decided, and not the distance */
+    size_t refused[LAST_REFUSAL + 1]; /* calls, by number */
+    size_t apart;                     /* pairs that had not met one call before they must */
+    size_t firsts, releases, nans;    /* pairs that met with other first numbers, other release numbers, other bits in a NaN */
+    size_t cuts, no_cuts;             /* further calls that the decision rule decided, and not the distance */
+    size_t ends;                      /* pairs that came to the last number */
 } seen;
 
 static int64_t give(struct history *history, const struct step *call)
@@ -109,7 +120,7 @@ static struct step next_call(uint64_t n)
 {
     size_t set = old.last == 0 ? BRINE_SET_LIMIT : old.length;
     if (one_in(8) || old.last == 0)
-        set -= draw((uint32_t)(set - LEAST_SET) + 1);
+        set -= draw((uint32_t)(set - SHORTEST_SET) + 1);
     return film_call(&film, set, n, draw_keyframe(n));
 }
 
@@ -133,6 +144,7 @@ static bool both_meet(uint64_t start, uint64_t calls)
     }
     seen.firsts += old.now.numbers[FIRST] != fresh.now.numbers[FIRST];
     seen.releases += old.now.numbers[RELEASE] != fresh.now.numbers[RELEASE];
+    seen.nans += memcmp(old.now.scores, fresh.now.scores, KEPT * BRINE_SCORE_DOUBLES * sizeof(double)) != 0;
     return EXPECT(same_states());
 }
 
@@ -162,10 +174,10 @@ static bool both_go_on(bool ending)
         return false;
     if (number == 0 && (!accepts(&old, &call) || !accepts(&fresh, &call)))
         return false;
-    if (old.answer >= 2)
-        EXPECT(old.now.numbers[OFFSET] < old.now.numbers[COUNT]); /* the score is one of those that are compared */
     count_decision(&call);
-    return EXPECT_NUMBER(fresh.answer, old.answer) && EXPECT(same_states());
+    /* where there is a score, it is one of those that are compared */
+    return EXPECT_NUMBER(fresh.answer, old.answer) && EXPECT(same_states())
+        && EXPECT(old.answer < 2 || old.now.numbers[OFFSET] < old.now.numbers[COUNT]);
 }
 
 /* Settings for both, and rubbish of its own in each one's places. */
@@ -214,10 +226,11 @@ static bool pair_meets(void)
     film_make(&film, first, (size_t)before - 1); /* a peak five pairs before the last that the fresh one sees otherwise */
     if (!make_both() || !old_alone(first, first + before) || !both_meet(first + before, calls))
         return false;
-    const bool ending = one_in(2); /* the sets get shorter from call to call, as at a film's end */
+    const bool ending = one_in(3); /* the sets get shorter from call to call, as at a film's end */
     for (size_t i = 0; i < FURTHER; i++)
         if (!both_go_on(ending))
             return false;
+    seen.ends += old.last == UINT32_MAX;
     return true;
 }
 
@@ -231,16 +244,29 @@ static void all_pairs(uint32_t of_mode)
         draw_from((uint64_t)mode << 32 | pairs);
     while (pair_meets() && ++pairs < PAIRS);
     EXPECT_NUMBER((int64_t)pairs, PAIRS);
+    EXPECT(seen.refused[7] >= LEAST_REFUSED && seen.refused[8] >= LEAST_REFUSED && seen.refused[10] >= LEAST_REFUSED);
+    EXPECT(seen.cuts >= LEAST_CUTS);
+    EXPECT(seen.no_cuts >= LEAST_NO_CUTS);
+    EXPECT(seen.ends >= LEAST_ENDS);
+    EXPECT_NUMBER((int64_t)seen.firsts, PAIRS);
 }
 
+/* At the tenth call the release number is the fresh one's first number in both. */
 static void standard(void)
 {
     all_pairs(STANDARD);
+    EXPECT(seen.apart >= LEAST_APART);
+    EXPECT(seen.nans >= LEAST_OTHER_NANS);
+    EXPECT_NUMBER((int64_t)seen.releases, 0);
 }
 
+/* After four calls the fresh one lacks a score. At the fifth its release number is still its first number, and the old one's is
+   lower. */
 static void fast(void)
 {
     all_pairs(FAST);
+    EXPECT_NUMBER((int64_t)seen.apart, PAIRS);
+    EXPECT_NUMBER((int64_t)seen.releases, PAIRS);
 }
 
 const struct test meeting_tests[] = {
