@@ -36,6 +36,14 @@ bool one_in(uint32_t many)
     return draw(many) == 0;
 }
 
+void draw_rubbish(void *place, size_t words)
+{
+    for (size_t i = 0; i < words; i++) {
+        const uint64_t bits = draw_bits();
+        memcpy((uint8_t *)place + i * sizeof bits, &bits, sizeof bits);
+    }
+}
+
 static double draw_inter(uint32_t kind, bool peak)
 {
     static const double edges[] = {0.0, -0.0, 5e-324, DBL_MIN, 1e-9, 7, 17.999999999999996, 18, 1e18, DBL_MAX / 2, DBL_MAX};
@@ -110,20 +118,9 @@ static void other_nans(double *items)
 {
     for (size_t i = 0; i < BRINE_SET_LIMIT; i++)
         if (items[i] != items[i]) {
-            const uint64_t low = draw_bits() & 0x800800000000ffff;
-            const uint64_t bits = 0x7ff0000000010000 | low;
+            const uint64_t bits = 0x7ff0000000010000 | (draw_bits() & 0x800800000000ffff);
             memcpy(items + i, &bits, sizeof bits);
         }
-}
-
-/* Rubbish in a list that is not read; its length. */
-static size_t rubbish(double *items)
-{
-    for (size_t i = 0; i < BRINE_SET_LIMIT; i++) {
-        const uint64_t bits = draw_bits();
-        memcpy(items + i, &bits, sizeof bits);
-    }
-    return draw(BRINE_SET_LIMIT + 1);
 }
 
 struct step call_again(const struct step *call, uint32_t mode)
@@ -131,8 +128,10 @@ struct step call_again(const struct step *call, uint32_t mode)
     struct step again = *call;
     other_nans(again.inter); /* there is one in a spoiled call alone */
     if (mode == FAST) {
-        again.importance_count = rubbish(again.importance);
-        again.threshold_count = rubbish(again.threshold);
+        draw_rubbish(again.importance, BRINE_SET_LIMIT);
+        draw_rubbish(again.threshold, BRINE_SET_LIMIT);
+        again.importance_count = draw(BRINE_SET_LIMIT + 1);
+        again.threshold_count = draw(BRINE_SET_LIMIT + 1);
     } else {
         other_nans(again.importance);
         other_nans(again.threshold);

@@ -23,6 +23,9 @@ uint32_t draw(uint32_t limit);
 /* True in one of so many draws. */
 bool one_in(uint32_t many);
 
+/* Fills so many words of eight bytes with any bits. */
+void draw_rubbish(void *place, size_t words);
+
 /* A film from pair `first` on. Some have a peak at the place `peak` and at every fifth before and behind it. */
 void film_make(struct film *film, uint64_t first, size_t peak);
 

@@ -10,19 +10,20 @@ enum { PAIRS = 5000 }; /* in each mode */
 enum { STANDARD_CALLS = 10, FAST_CALLS = 5 };
 enum { MOST_BEFORE = 30, FURTHER = 20, SHORTEST_SET = 7, KEPT = 10, GUARD_WORDS = 8, LAST_REFUSAL = 10 };
 
-/* What the pairs of each mode must bring, so that the test can fail: half of what they bring (docs/RUNS.md), or less. */
+/* What the pairs of each mode must bring at the least, so that the test can fail. It is less than half of what they bring: that
+   is the number behind "of", the lower one of the two modes. */
 enum {
-    LEAST_REFUSED = 10000, /* calls refused with each of 7, 8, 10: so that states would part if one of them wrote */
-    LEAST_APART = 500,     /* Standard pairs that nine calls do not bring together: so that ten are needed */
-    LEAST_OTHER_NANS = 500, /* Standard pairs that meet with NaNs of other bits: so that these bits are seen not to matter */
-    LEAST_CUTS = 200,      /* cuts behind the meeting, and calls without one, that the distance did not decide: so that the */
-    LEAST_NO_CUTS = 10000, /* scores did, and an answer that came from before the meeting would show */
-    LEAST_ENDS = 100       /* pairs that come to the last number, 2^32 - 1 */
+    LEAST_REFUSED = 10000,  /* of 28,214 calls refused with each of 7, 8 and 10: one that changed something would show */
+    LEAST_APART = 500,      /* of 1,170 Standard pairs that nine calls do not bring together: ten are needed */
+    LEAST_OTHER_NANS = 500, /* of 1,840 Standard pairs that meet with a NaN of other bits: these bits do not matter */
+    LEAST_CUTS = 200,       /* of 597 cuts behind the meeting that the scores decided, and not the distance, */
+    LEAST_NO_CUTS = 10000,  /* and of 22,674 such calls without a cut: the answers are not all the same */
+    LEAST_ENDS = 100        /* of 595 pairs that come to the last number, 2^32 - 1: no call is left then */
 };
 
 _Static_assert(MOST_BEFORE + STANDARD_CALLS + FURTHER + BRINE_SET_LIMIT < FILM_PAIRS, "the film is long enough");
 
-/* A detector's two places, with guard words around them. They are lighter than `struct lent`: there are a million calls. */
+/* A detector's two places, with guard words around them. They are lighter than `struct lent`, as there are many calls. */
 struct places {
     uint64_t before[GUARD_WORDS], numbers[BRINE_NUMBERS], between[GUARD_WORDS];
     double scores[BRINE_SCORES];
@@ -169,7 +170,7 @@ static bool both_go_on(bool ending)
         draw_lists(&call);
     int64_t number = one_in(3) ? spoil(&call, mode, old.last, old.length) : 0;
     if (n > UINT32_MAX)
-        number = 7; /* no call is left */
+        number = 7;
     if (number != 0 && (!refuses(&old, &call, number) || !refuses(&fresh, &call, number)))
         return false;
     if (number == 0 && (!accepts(&old, &call) || !accepts(&fresh, &call)))
@@ -198,8 +199,7 @@ static bool make_both(void)
     struct history *const both[] = {&old, &fresh};
     for (size_t i = 0; i < 2; i++) {
         struct places *const now = &both[i]->now;
-        for (size_t k = 0; k < sizeof *now; k++)
-            ((unsigned char *)now)[k] = (unsigned char)draw(256);
+        draw_rubbish(now, sizeof *now / sizeof(uint64_t));
         both[i]->last = both[i]->length = 0;
         if (!EXPECT_NUMBER(brine_detector_fresh(width, height, 8, lookahead, mode, min, max, now->numbers, BRINE_NUMBERS,
                                                 now->scores, BRINE_SCORES), 0))
@@ -223,7 +223,7 @@ static bool pair_meets(void)
     const uint64_t calls = mode == FAST ? FAST_CALLS : STANDARD_CALLS;
     const uint64_t before = one_in(4) ? 1 : 1 + draw(MOST_BEFORE);
     const uint64_t first = draw_first(before + calls);
-    film_make(&film, first, (size_t)before - 1); /* a peak five pairs before the last that the fresh one sees otherwise */
+    film_make(&film, first, (size_t)before - 1); /* peaks there: the last pair before the fresh one's first */
     if (!make_both() || !old_alone(first, first + before) || !both_meet(first + before, calls))
         return false;
     const bool ending = one_in(3); /* the sets get shorter from call to call, as at a film's end */
@@ -234,8 +234,8 @@ static bool pair_meets(void)
     return true;
 }
 
-/* All pairs of a mode, up to the first that fails. */
-static void all_pairs(uint32_t of_mode)
+/* All pairs of a mode, up to the first that fails; and what they must have brought. */
+static bool all_pairs(uint32_t of_mode)
 {
     size_t pairs = 0;
     mode = of_mode;
@@ -243,18 +243,20 @@ static void all_pairs(uint32_t of_mode)
     do
         draw_from((uint64_t)mode << 32 | pairs);
     while (pair_meets() && ++pairs < PAIRS);
-    EXPECT_NUMBER((int64_t)pairs, PAIRS);
+    if (!EXPECT_NUMBER((int64_t)pairs, PAIRS))
+        return false;
     EXPECT(seen.refused[7] >= LEAST_REFUSED && seen.refused[8] >= LEAST_REFUSED && seen.refused[10] >= LEAST_REFUSED);
     EXPECT(seen.cuts >= LEAST_CUTS);
     EXPECT(seen.no_cuts >= LEAST_NO_CUTS);
     EXPECT(seen.ends >= LEAST_ENDS);
-    EXPECT_NUMBER((int64_t)seen.firsts, PAIRS);
+    return EXPECT_NUMBER((int64_t)seen.firsts, PAIRS);
 }
 
 /* At the tenth call the release number is the fresh one's first number in both. */
 static void standard(void)
 {
-    all_pairs(STANDARD);
+    if (!all_pairs(STANDARD))
+        return;
     EXPECT(seen.apart >= LEAST_APART);
     EXPECT(seen.nans >= LEAST_OTHER_NANS);
     EXPECT_NUMBER((int64_t)seen.releases, 0);
@@ -264,7 +266,8 @@ static void standard(void)
    lower. */
 static void fast(void)
 {
-    all_pairs(FAST);
+    if (!all_pairs(FAST))
+        return;
     EXPECT_NUMBER((int64_t)seen.apart, PAIRS);
     EXPECT_NUMBER((int64_t)seen.releases, PAIRS);
 }
