@@ -1,6 +1,6 @@
-/* Demand 3 over random pairs of histories, see docs/MEETING.md: an old detector, and a fresh one that begins later. From its first
-   call on both accept the same calls. After ten of them in Standard mode, five in Fast, they have met, and they stay met.
-   Refused calls stand anywhere in both histories, each history's its own. */
+/* Demand 3 over random pairs of histories, see docs/MEETING.md: an old detector, and a fresh one that begins later. From the
+   fresh one's first call on both accept the same calls. After ten of them in Standard mode, five in Fast, they have met, and
+   they stay met. Refused calls stand anywhere in both histories; until they meet each has its own. */
 #include "histories.h"
 
 #include <stddef.h>
@@ -10,8 +10,8 @@ enum { PAIRS = 5000 }; /* in each mode */
 enum { STANDARD_CALLS = 10, FAST_CALLS = 5 };
 enum { MOST_BEFORE = 30, FURTHER = 20, SHORTEST_SET = 7, KEPT = 10, GUARD_WORDS = 8, LAST_REFUSAL = 10 };
 
-/* What the pairs of each mode must bring at the least, so that the test can fail. It is less than half of what they bring: that
-   is the number behind "of", the lower one of the two modes. */
+/* What the pairs of each mode must bring at the least, so that the test can fail. It is less than half of what they bring:
+   that is the number behind "of", the lower one of the two modes. */
 enum {
     LEAST_REFUSED = 10000,  /* of 28,214 calls refused with each of 7, 8 and 10: one that changed something would show */
     LEAST_APART = 500,      /* of 1,170 Standard pairs that nine calls do not bring together: ten are needed */
@@ -101,7 +101,7 @@ static bool same_states(void)
     return true;
 }
 
-/* Any number of refused calls, mostly none, where call n comes next. Their sets may be short, and their lists another film's. */
+/* Any number of refused calls, mostly none, where call n comes next. Their sets may be short, their lists another film's. */
 static bool refused_calls(struct history *history, uint64_t n)
 {
     while (one_in(3)) {
@@ -262,8 +262,8 @@ static void standard(void)
     EXPECT_NUMBER((int64_t)seen.releases, 0);
 }
 
-/* After four calls the fresh one lacks a score. At the fifth its release number is still its first number, and the old one's is
-   lower. */
+/* After four calls the fresh one lacks a score. At the fifth its release number is still its first number, and the old
+   one's is lower. */
 static void fast(void)
 {
     if (!all_pairs(FAST))
