@@ -2,15 +2,12 @@
 use mathlib.Core.Path.{_≡_, refl, sym, _∙_, ap}
 use mathlib.Core.Bool.{Bool, true, false, cond}
 use mathlib.Core.List.{List, [], _∷_, map, nil≢cons, head-eq-of-cons-eq, tail-eq-of-cons-eq}
-use Prim.Native.Nat.{ℕ, _+_}
-use lib.Ieee.{Float}
+use Prim.Native.Nat.{ℕ}
 use Rattle.settings.specs.declared.Settings.{Settings}
 use Rattle.settings.specs.Settings.{isFast}
-use Rattle.score.specs.declared.Measure.{Measure}
 use Rattle.state.specs.State.{View, Call, call}
 use Rattle.state.specs.Refusals.{stepFault}
 use Rattle.state.proofs.Fine.{unread}
-use Rattle.detector.specs.Rules.{measureOf}
 use Rattle.detector.specs.Step.{Outcome, stepOf}
 use Rattle.detector.specs.Runs.{compared, stateAfter}
 use Rattle.detector.proofs.Left.{settings-kept}
@@ -20,13 +17,13 @@ use Rattle.meeting.proofs.ClosedForm.{span, Item, itemAt, scoredThen, l
 
 -- ---- what they score
 
-seen-same : (b : Bool) (ds is ts : List Float) (k : ℕ) → measureOf b ds (cond b [] is) (cond b [] ts) k ≡ measureOf b ds is ts k
-seen-same true ds is ts k = refl
-seen-same false ds is ts k = refl
-
 module _ (g : Settings) where
   item-as-read : (c : Call) (k : ℕ) → itemAt g (asRead g c) k ≡ itemAt g c k
-  item-as-read c k = ap (λ (m : Measure). record { pair = c .number + k; measure = m }) (seen-same (isFast g) (c .inter) (c .importance) (c .threshold) k)
+  item-as-read c k = by (isFast g) refl
+    where
+      by : (b : Bool) → isFast g ≡ b → itemAt g (asRead g c) k ≡ itemAt g c k
+      by true e = rw e
+      by false e = rw e
 
   pub same-item : (c d : Call) (k : ℕ) → asRead g c ≡ asRead g d → itemAt g c k ≡ itemAt g d k
   same-item c d k e = sym (item-as-read c k) ∙ ap (λ (x : Call). itemAt g x k) e ∙ item-as-read d k
