@@ -170,8 +170,10 @@ shown s = settingNumbers (s .settings) ++ (s .offset ∷ s .lastNumber ∷ s .la
 numbers-shown : (p : Places) → Sound p → comparedNumbers p ≡ shown (compared (seen p))
 unfolding numbersFrom
 numbers-shown p w =
-    ap (λ (l : List ℕ). comparedNumbers (record { numbers = l; scores = p .scores }))
-    (from-is numbersLong 0 (p .numbers) (sym (long (p .numbers) (p .scores) (w .0) .0)))
+    let ns = numbersFrom numbersLong 0 (p .numbers) in
+    let listed : p .numbers ≡ ns = from-is numbersLong 0 (p .numbers) (sym (long (p .numbers) (p .scores) (w .0) .0)) in
+    let same : comparedNumbers (record { numbers = ns; scores = p .scores }) ≡ shown (compared (seen p)) = refl in
+    ap (λ (l : List ℕ). comparedNumbers (record { numbers = l; scores = p .scores })) listed ∙ same
 
 -- double j of the score that five doubles are
 doubleOf : ScenecutResult → ℕ → Float
