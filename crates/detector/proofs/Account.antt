@@ -3,7 +3,7 @@
 use mathlib.Core.Path.{_≡_, refl, _∙_, ap}
 use mathlib.Core.Bool.{true, false, true≢false}
 use mathlib.Core.List.{List, [], _∷_, _++_}
-use borrow.Author.Tests.{eq-eqb, eqb-true}
+use borrow.Author.Tests.{eqb-true}
 use lib.Dec.{eqb}
 use Rattle.answer.specs.Answer.{Answer, gives, refused}
 use Rattle.state.specs.State.{View, Call, view}
@@ -11,26 +11,17 @@ use Rattle.state.specs.Refusals.{stateFault, stepFault}
 use Rattle.state.proofs.Tests.{and-both}
 use Rattle.detector.specs.declared.Stepped.{Stepped}
 use Rattle.detector.specs.Step.{Verdict, Outcome, isRefused, stepAnswer, outcome, stepOf}
-use Rattle.detector.specs.Runs.{answersTo, stateAfter, allAccepted, compared, next, thenStep, runOf}
+use Rattle.detector.specs.Runs.{stateAfter, allAccepted, next, thenStep, runOf}
 use Rattle.detector.proofs.Cases.{leaves}
 use Rattle.detector.proofs.Reach.{step-passes}
 use Rattle.detector.proofs.Left.{settings-kept}
-use Rattle.detector.proofs.Views.{alike}
 
--- ---- a run in two parts, and its last call
-
-pub after-none : (s : View) → stateAfter s [] ≡ s
-unfolding stateAfter
-after-none s = refl
+-- ---- a run in two parts
 
 pub after-parts : (s : View) (cs ds : List Call) → stateAfter s (cs ++ ds) ≡ stateAfter (stateAfter s cs) ds
 unfolding stateAfter
 after-parts s [] ds = refl
 after-parts s (c ∷ cs) ds = after-parts (stepOf s c .state) cs ds
-
-pub accepted-none : (s : View) → allAccepted s [] ≡ true
-unfolding allAccepted
-accepted-none s = refl
 
 pub accepted-parts : (s : View) (cs ds : List Call) → allAccepted s (cs ++ ds) ≡ true
     → (allAccepted s cs ≡ true) × (allAccepted (stateAfter s cs) ds ≡ true)
@@ -40,37 +31,6 @@ accepted-parts s (c ∷ cs) ds e =
     let p = and-both (eqb (stepFault s c) 0) _ e in
     let q = accepted-parts (stepOf s c .state) cs ds (p .1) in
     (rw (p .0) (q .0), q .1)
-
-pub accepted-both : (s : View) (cs ds : List Call) → allAccepted s cs ≡ true → allAccepted (stateAfter s cs) ds ≡ true
-    → allAccepted s (cs ++ ds) ≡ true
-unfolding allAccepted stateAfter
-accepted-both s [] ds p q = q
-accepted-both s (c ∷ cs) ds p q =
-    let w = and-both (eqb (stepFault s c) 0) _ p in
-    rw (w .0) (accepted-both (stepOf s c .state) cs ds (w .1) q)
-
-pub after-last : (s : View) (cs : List Call) (c : Call) → stateAfter s (cs ++ (c ∷ [])) ≡ stepOf (stateAfter s cs) c .state
-unfolding stateAfter
-after-last s cs c = after-parts s cs (c ∷ [])
-
-pub accepted-last : (s : View) (cs : List Call) (c : Call) → allAccepted s (cs ++ (c ∷ [])) ≡ true
-    → (allAccepted s cs ≡ true) × (stepFault (stateAfter s cs) c ≡ 0)
-unfolding allAccepted
-accepted-last s cs c e =
-    let p = accepted-parts s cs (c ∷ []) e in
-    (p .0, eqb-true _ _ (and-both (eqb (stepFault (stateAfter s cs) c) 0) true (p .1) .0))
-
-pub accepted-more : (s : View) (cs : List Call) (c : Call) → allAccepted s cs ≡ true → stepFault (stateAfter s cs) c ≡ 0
-    → allAccepted s (cs ++ (c ∷ [])) ≡ true
-unfolding allAccepted
-accepted-more s cs c p e = accepted-both s cs (c ∷ []) p (rw (eq-eqb (stepFault (stateAfter s cs) c) 0 e))
-
--- the state after a run names its last call
-pub last-call : (s : View) (cs : List Call) (c : Call) → allAccepted s (cs ++ (c ∷ [])) ≡ true
-    → (stateAfter s (cs ++ (c ∷ [])) .lastNumber ≡ c .number) × (stateAfter s (cs ++ (c ∷ [])) .lastLength ≡ c .setLength)
-last-call s cs c e =
-    let w = leaves (stateAfter s cs) c (accepted-last s cs c e .1) in
-    rw (after-last s cs c) (w .number, w .size)
 
 -- ---- what every run keeps
 
@@ -84,17 +44,6 @@ pub settings-after : (s : View) (cs : List Call) → stateAfter s cs .settings �
 unfolding stateAfter
 settings-after s [] = refl
 settings-after s (c ∷ cs) = settings-after (stepOf s c .state) cs ∙ settings-kept s c
-
--- ---- the first and the release number bear on no later answer
-
-pub after-blind : (s t : View) (cs : List Call) → compared s ≡ compared t
-    → (answersTo s cs ≡ answersTo t cs) × (compared (stateAfter s cs) ≡ compared (stateAfter t cs))
-unfolding answersTo stateAfter
-after-blind s t [] e = (refl, e)
-after-blind s t (c ∷ cs) e =
-    let x = alike s t c e in
-    let r = after-blind (stepOf s c .state) (stepOf t c .state) cs (x .1) in
-    (rw (x .0, r .0), r .1)
 
 -- ---- the code's run
 

@@ -1,4 +1,4 @@
--- Calls one after the other: what they answer and leave, and what the code's run makes of them.
+-- Calls one after the other: what they leave, and what the code's run makes of them.
 use mathlib.Core.List.{List, [], _∷_}
 use mathlib.Core.Bool.{Bool, true, _&&_}
 use Prim.Native.Nat.{ℕ, _-_}
@@ -11,11 +11,6 @@ use Rattle.state.specs.Refusals.{stepFault}
 use Rattle.detector.specs.Step.{Verdict, Outcome, stepOf}
 
 -- ---- any calls whatsoever after a state, refused ones among them
-
--- the answers
-unfoldable pub answersTo : View → List Call → List (Answer Verdict)
-answersTo s [] = []
-answersTo s (c ∷ cs) = stepOf s c .answer ∷ answersTo (stepOf s c .state) cs
 
 -- the state at the end
 unfoldable pub stateAfter : View → List Call → View
