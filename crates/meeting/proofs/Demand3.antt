@@ -22,7 +22,7 @@ use Rattle.lent.proofs.Histories.{places-show, same-places}
 use Rattle.brinepulley.specs.Histories.{inC}
 use Rattle.brinepulley.proofs.Histories.{c-shows}
 use Rattle.meeting.specs.Calls.{asRead}
-use Rattle.meeting.specs.Meeting.{Restart, Acceptance, Demand3, SameState}
+use Rattle.meeting.specs.Meeting.{Restart, Acceptance, Demand3, SameState, Proved}
 use Rattle.meeting.proofs.AsRead.{same-step}
 use Rattle.meeting.proofs.Meets.{calls-meet}
 use Rattle.meeting.proofs.Takes.{Behind, takes}
@@ -108,6 +108,9 @@ places-demand3 = demand3 byPlaces places-show SamePlaces same-places
 
 pub c-demand3 : Demand3 inC SamePlaces
 c-demand3 = demand3 inC c-shows SamePlaces same-places
+
+pub proved : Proved
+proved = record { value = value-demand3; places = places-demand3; forC = c-demand3 }
 
 -- ---- the code's run: its contract says that `outcome r` is `runOf` of what stood before and the calls that it makes
 

@@ -10,7 +10,9 @@ use Rattle.settings.specs.Settings.{normalLookahead, isNone, isFast}
 use Rattle.state.specs.State.{Call, view}
 use Rattle.state.specs.declared.State.{State}
 use Rattle.detector.specs.Runs.{compared}
-use Rattle.detector.specs.Histories.{Detector, Made, Follows, keptAfter, callsIn, repliesIn, History, lastKept, acceptedCalls}
+use Rattle.detector.specs.Histories.{Detector, Made, Follows, keptAfter, callsIn, repliesIn, History, lastKept, acceptedCalls, byValue}
+use Rattle.lent.specs.Histories.{byPlaces, SamePlaces}
+use Rattle.brinepulley.specs.Histories.{inC}
 use Rattle.meeting.specs.Calls.{asRead, OneMeasurement, FullSets}
 
 -- "ten such calls in Standard mode, five in Fast"
@@ -18,8 +20,8 @@ abbrev pub callsToMeet : Bool → ℕ
 callsToMeet fast = cond fast 5 10
 
 -- The hypotheses. `old` and `new` are the accepted calls of two detectors with "equal settings" g, in their order; the fresh one begins when
--- the old one has accepted d calls. What is asked of all calls "until the states meet" is asked of the old one's: the fresh one's are
--- equal to some of these.
+-- the old one has accepted d calls. What is asked of the calls of both "until the states meet" is asked of the old one's: as the mode
+-- reads them, the fresh one's are among these (`same`).
 pub record Restart (g : Settings) (d : ℕ) (old new : List Call) : Type 0 where
   -- "in Standard or Fast mode": every other number than None's is one of these, or refused
   pub mode : isNone g ≡ false
@@ -34,7 +36,7 @@ pub record Restart (g : Settings) (d : ℕ) (old new : List Call) : Type 0 where
   -- "after ten such calls in Standard mode, five in Fast"
   pub enough : callsToMeet (isFast g) ≤ length new
 
--- The statements, of any detector D that runs. `Alike` says which of its states are the same, "first and release numbers apart".
+-- The statements, of a detector D that runs. `Alike` says which of its states are the same, "first and release numbers apart".
 module _ (D : Detector) (Alike : D .Kept → D .Kept → Type 0) where
   -- 1. "A detector begun afresh at a later frame .. is .. in the same state as one that never stopped."
   abbrev pub Meeting : Type 0
@@ -62,6 +64,12 @@ pub record Demand3 (D : Detector) (Alike : D .Kept → D .Kept → Type 0) : Typ
   pub stayMet : StayMet D Alike
   pub acceptance : Acceptance D
 
--- for the detector whose state is handed on by value; for lent places it is `SamePlaces` of `lent`
+-- the states that are the same, where they are handed on by value; for lent places it is `SamePlaces`
 abbrev pub SameState : State → State → Type 0
 SameState s t = compared (view s) ≡ compared (view t)
+
+-- What is proved: of the detector by value, of the one over lent places, and of the functions for C.
+pub record Proved : Type 0 where
+  pub value : Demand3 byValue SameState
+  pub places : Demand3 byPlaces SamePlaces
+  pub forC : Demand3 inC SamePlaces
