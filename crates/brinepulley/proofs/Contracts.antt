@@ -1,4 +1,5 @@
--- What `inC` allows (specs/Histories.antt) are the contracts of the two C functions, word for word: each says just as much as the other.
+-- Every result that the contracts of `brine_detector_fresh` and `brine_detector_step` allow is one that `inC` allows (specs/Histories.antt), so every run of the
+-- code is a history; and of a step the way back too.
 -- Assumes nothing.
 use borrow.Fn.Kinds.{Dens, endedOf}
 use contract.Lifetimes.{Lfts}

@@ -12,13 +12,16 @@ use Rattle.detector.specs.Step.{stepAnswer, isRefused, outcome, HandsBac
 
 -- ---- a detector that runs
 
--- what is kept between calls, what a call replies, whether that says that it was accepted, what `fresh` may leave where it refuses
--- nothing, and what `step` may reply and leave
 pub record Detector : Type 1 where
+  -- what is kept between calls
   pub Kept : Type 0
+  -- what a call replies
   pub Reply : Type 0
+  -- whether that says that the call was accepted
   pub accepts : Reply → Bool
+  -- what the contract of `fresh` allows to be kept, where it refuses nothing
   pub Begins : Settings → Kept → Type 0
+  -- what the contract of `step` allows: what was kept before, a call, its reply, what is kept after it
   pub Allows : Kept → Call → Reply → Kept → Type 0
 
 -- ---- histories of it
@@ -30,7 +33,7 @@ pub record Made (D : Detector) : Type 0 where
   pub after : D .Kept
 
 module _ (D : Detector) where
-  -- each call is made of what the one before it left, and the contract of `step` allows its result
+  -- each call is given what the one before it left, and its result is one that is allowed
   abbrev pub Follows : D .Kept → List (Made D) → Type 0
   Follows k [] = Unit {0}
   Follows k (m ∷ ms) = D .Allows k (m .call) (m .reply) (m .after) × Follows (m .after) ms

@@ -6,6 +6,7 @@ use Prim.Native.Nat.{ℕ, _-_}
 use lib.Dec.{eqb}
 use lib.ListN.{getD}
 use Rattle.answer.specs.Answer.{Answer, gives, refused}
+use Rattle.settings.specs.declared.Settings.{Settings}
 use Rattle.settings.specs.Settings.{isNone, isFast}
 use Rattle.score.specs.declared.ScenecutResult.{ScenecutResult}
 use Rattle.score.specs.declared.Measure.{Measure}
@@ -52,9 +53,12 @@ HandsBack r s = isRefused (stepAnswer (r .answer)) ≡ true → r .state ≡ s
 
 -- ---- rules 2 to 7
 
--- what was measured of item k of a call
+-- what was measured of item k of a call, as far as the mode reads it
+abbrev pub itemIn : Settings → Call → ℕ → Measure
+itemIn g c = measureOf (isFast g) (c .inter) (c .importance) (c .threshold)
+
 abbrev pub itemOf : View → Call → ℕ → Measure
-itemOf s c = measureOf (isFast (s .settings)) (c .inter) (c .importance) (c .threshold)
+itemOf s = itemIn (s .settings)
 
 -- rules 4 and 5
 abbrev pub progressOf : View → Call → Turn

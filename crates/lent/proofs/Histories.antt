@@ -7,21 +7,22 @@ use mathlib.Core.List.{List, [], _∷_, _++_}
 use mathlib.Core.Option.{Option, none, some}
 use Prim.Native.Nat.{ℕ, zero, suc, _+_, _*_, _≤_, _<_}
 use native.Mathlib.Omega.{arith}
-use borrow.Author.Tests.{eqb-true, eqb-false, not-false}
+use borrow.Author.Tests.{eqb-false, not-false}
 use lib.Dec.{eqb}
 use lib.Ieee.{Float, nan}
-use lib.ListN.{length, take, drop, getD, length-append, length-drop, length-take, drop-of-length-le}
-use lib.Seq.{getD-take, getD-drop, drop-cons}
+use lib.ListN.{length, take, drop, getD, length-append, length-drop, length-take}
+use lib.Seq.{getD-take, getD-drop}
 use Rattle.answer.specs.Answer.{Answer, gives, refused}
 use Rattle.answer.specs.Refusal.{refusal}
 use Rattle.answer.proofs.Laws.{or-none, passed, lent-written}
+use Rattle.sums.specs.Table.{table}
+use Rattle.sums.proofs.TableLaws.{is-table}
 use Rattle.settings.specs.declared.Settings.{Settings}
 use Rattle.settings.specs.Settings.{room, settingsFault}
 use Rattle.score.specs.declared.ScenecutResult.{ScenecutResult}
 use Rattle.score.specs.Deque.{noScore}
 use Rattle.state.specs.State.{View, Call}
 use Rattle.state.specs.Refusals.{stateFault, stepFault}
-use Rattle.state.proofs.Tests.{and-both}
 use Rattle.state.proofs.Well.{well}
 use Rattle.detector.specs.Fresh.{freshView}
 use Rattle.detector.specs.Step.{Verdict, Outcome, isRefused, stepOf}
@@ -32,12 +33,12 @@ use Rattle.detector.proofs.Reach.{fresh-passes, step-passes}
 use Rattle.detector.proofs.Unique.{answerBy, answer-only}
 use Rattle.detector.proofs.Histories.{Shows, decided-is}
 use Rattle.detector.proofs.Makes.{Makes, answer-back}
-use Rattle.lent.specs.Places.{settingsLong, numbersLong, scoreLong, scoresLong, isState, frontScore, scoresOf, stateOf, settingNumbers, callNumbers, doubles, placed}
+use Rattle.lent.specs.Places.{offsetPlace, countPlace, settingsLong, numbersLong, scoreLong, scoresLong, isState, frontScore, scoresOf, stateOf, settingNumbers, callNumbers, doubles, placed}
 use Rattle.lent.specs.Lent.{freshFault, freshNumbers, lentStep, numbersAfter, scoresAfter}
-use Rattle.lent.specs.Histories.{Places, byPlaces, offsetPlace, countPlace, numberAt, doubleAt, comparedNumbers, SamePlaces}
-use Rattle.lent.proofs.Sizes.{both}
+use Rattle.lent.specs.Histories.{Places, byPlaces, numberAt, doubleAt, comparedNumbers, SamePlaces}
+use Rattle.lent.proofs.Sizes.{both, state-long}
 use Rattle.lent.proofs.Scores.{scores-long, score-at}
-use Rattle.lent.proofs.Placed.{carried, fresh-carried}
+use Rattle.lent.proofs.Placed.{stepped, carried, fresh-carried}
 
 -- ---- the places stay a state
 
@@ -49,10 +50,8 @@ placed-long (e ∷ l) xs h =
     omega (arith, placed-long l (drop scoreLong xs) (omega arith))
 
 module _ (ns : List ℕ) (xs : List Float) (is : isState ns xs ≡ true) where
-  long : (length ns ≡ numbersLong) × (length xs ≡ scoresLong)
-  long =
-      let p = and-both (eqb (length ns) numbersLong) (eqb (length xs) scoresLong) is in
-      (eqb-true _ _ (p .0), eqb-true _ _ (p .1))
+  abbrev long : (length ns ≡ numbersLong) × (length xs ≡ scoresLong)
+  long = state-long ns xs is
 
   -- after any outcome with no more entries than there is room for
   still : (a : Answer Verdict) (s : View) → ((v : Verdict) → a ≡ gives v → length (s .entries) ≤ room)
@@ -81,23 +80,23 @@ module _ (p : Places) (c : Call) (w : Sound p) where
   abbrev lent : Outcome
   lent = lentStep (p .numbers) (p .scores) c
 
-  stepped : lent ≡ stepOf (seen p) c
-  stepped = rw (w .0)
+  abbrev steps : lent ≡ stepOf (seen p) c
+  steps = stepped (p .numbers) (p .scores) c (w .0)
 
-  pub holds : stateOf (numbersAfter lent (p .numbers)) (scoresAfter lent (p .scores)) ≡ stepOf (seen p) c .state
+  holds : stateOf (numbersAfter lent (p .numbers)) (scoresAfter lent (p .scores)) ≡ stepOf (seen p) c .state
   holds = by (lent .answer) refl
     where
       by : (a : Answer Verdict) → lent .answer ≡ a → stateOf (numbersAfter lent (p .numbers)) (scoresAfter lent (p .scores)) ≡ stepOf (seen p) c .state
-      by (gives v) e = carried (p .numbers) (p .scores) c (w .0) v e ∙ ap (λ (o : Outcome). o .state) stepped
+      by (gives v) e = carried (p .numbers) (p .scores) c (w .0) v e ∙ ap (λ (o : Outcome). o .state) steps
       by (refused f) e =
           let none : eqb (stepFault (seen p) c) 0 ≡ false
-          = sym (decided-is (seen p) c) ∙ ap (λ (a : Answer Verdict). not (isRefused a)) (sym (ap (λ (o : Outcome). o .answer) stepped) ∙ e) in
+          = sym (decided-is (seen p) c) ∙ ap (λ (a : Answer Verdict). not (isRefused a)) (sym (ap (λ (o : Outcome). o .answer) steps) ∙ e) in
           rw e (sym (ap (λ (o : Outcome). o .state) (step-refused (seen p) c (eqb-false _ _ none))))
 
-  pub state-still : isState (numbersAfter lent (p .numbers)) (scoresAfter lent (p .scores)) ≡ true
+  state-still : isState (numbersAfter lent (p .numbers)) (scoresAfter lent (p .scores)) ≡ true
   state-still =
       still (p .numbers) (p .scores) (w .0) (lent .answer) (lent .state)
-      (λ v e. rw stepped (entries-few (seen p) c v (sym (ap (λ (o : Outcome). o .answer) stepped) ∙ e)))
+      (λ v e. rw steps (entries-few (seen p) c v (sym (ap (λ (o : Outcome). o .answer) steps) ∙ e)))
 
 -- what a call leaves in the places, whatever it replies
 module _ (p q : Places) (c : Call) (w : Sound p) (n : q .numbers ≡ numbersAfter (lent p c w) (p .numbers)) (x : q .scores ≡ scoresAfter (lent p c w) (p .scores)) where
@@ -108,7 +107,7 @@ module _ (p q : Places) (c : Call) (w : Sound p) (n : q .numbers ≡ numbersAfte
   stays-sound = (rw (n, x) (state-still p c w), rw leaves-state (step-passes (seen p) c (w .1)))
 
 pub answers : (p : Places) (c : Call) → Sound p → lentStep (p .numbers) (p .scores) c .answer ≡ stepOf (seen p) c .answer
-answers p c w = ap (λ (o : Outcome). o .answer) (stepped p c w)
+answers p c w = ap (λ (o : Outcome). o .answer) (steps p c w)
 
 pub fresh-sound : (g : Settings) (p : Places) → byPlaces .Begins g p → Sound p × (seen p ≡ freshView g) × (settingsFault g ≡ 0)
 fresh-sound g p b =
@@ -116,7 +115,7 @@ fresh-sound g p b =
     let none = or-none (refusal 11 (not (isState ns (p .scores)))) (settingsFault g) (sym (b .1)) in
     let was : isState ns (p .scores) ≡ true = not-false (isState ns (p .scores)) (passed 10 _ (none .0)) in
     let written : p .numbers ≡ settingNumbers g ++ callNumbers (freshView g) = b .2 ∙ sym (lent-written (freshFault ns (p .scores) g) _ ns (b .1)) in
-    let is : isState (p .numbers) (p .scores) ≡ true = rw written (both (settingNumbers g ++ callNumbers (freshView g)) (p .scores) refl (long ns (p .scores) was .1)) in
+    let is : isState (p .numbers) (p .scores) ≡ true = rw written (both (settingNumbers g ++ callNumbers (freshView g)) (p .scores) refl (state-long ns (p .scores) was .1)) in
     let shown : seen p ≡ freshView g = rw (b .2) (fresh-carried ns (p .scores) g (sym (b .1))) in
     ((is, rw shown (fresh-passes g (none .1))), shown, none .1)
 
@@ -153,25 +152,16 @@ places-begin ns xs g e = (ns, e, refl)
 
 -- ---- what a reader of the places sees
 
--- a list by its numbers
-numbersFrom : ℕ → ℕ → List ℕ → List ℕ
-numbersFrom zero i l = []
-numbersFrom (suc n) i l = getD l i 0 ∷ numbersFrom n (suc i) l
-
-from-is : (n i : ℕ) (l : List ℕ) → i + n ≡ length l → drop i l ≡ numbersFrom n i l
-unfolding numbersFrom
-from-is zero i l e = drop-of-length-le l {i = i} (omega arith)
-from-is (suc n) i l e = drop-cons l i 0 (omega arith) ∙ ap (λ (r : List ℕ). getD l i 0 ∷ r) (from-is n (suc i) l (omega arith))
-
 -- what `comparedNumbers` shows of a view
 abbrev shown : View → List ℕ
 shown s = settingNumbers (s .settings) ++ (s .offset ∷ s .lastNumber ∷ s .lastLength ∷ 0 ∷ 0 ∷ s .count ∷ [])
 
 numbers-shown : (p : Places) → Sound p → comparedNumbers p ≡ shown (compared (seen p))
-unfolding numbersFrom
+unfolding table
 numbers-shown p w =
-    let ns = numbersFrom numbersLong 0 (p .numbers) in
-    let listed : p .numbers ≡ ns = from-is numbersLong 0 (p .numbers) (sym (long (p .numbers) (p .scores) (w .0) .0)) in
+    let at : ℕ → ℕ = λ (k : ℕ). numberAt k p in
+    let ns = table numbersLong at in
+    let listed : p .numbers ≡ ns = is-table 0 numbersLong at (p .numbers) (state-long (p .numbers) (p .scores) (w .0) .0) (λ k h. refl) in
     let same : comparedNumbers (record { numbers = ns; scores = p .scores }) ≡ shown (compared (seen p)) = refl in
     ap (λ (l : List ℕ). comparedNumbers (record { numbers = l; scores = p .scores })) listed ∙ same
 

@@ -6,8 +6,6 @@ use mathlib.Core.List.{List, [], _∷_, _++_}
 use mathlib.Core.Option.{Option, none, some}
 use Prim.Native.Nat.{ℕ, zero, suc, _+_, _≤_, _<_}
 use native.Mathlib.Omega.{arith}
-use borrow.Author.Tests.{eqb-true}
-use lib.Dec.{eqb}
 use lib.Ieee.{Float}
 use lib.ListN.{length, take, drop, getD, List·getD-append}
 use lib.Seq.{getD-append-add, getD-take, length-take-le}
@@ -18,14 +16,14 @@ use Rattle.settings.specs.Settings.{room}
 use Rattle.score.specs.declared.ScenecutResult.{ScenecutResult}
 use Rattle.score.specs.Deque.{noScore}
 use Rattle.state.specs.State.{View, Call}
-use Rattle.state.proofs.Tests.{and-both}
 use Rattle.detector.specs.Fresh.{freshView}
 use Rattle.detector.specs.Step.{Verdict, Outcome, stepOf}
 use Rattle.detector.proofs.Cases.{decided-accepted, leaves}
 use Rattle.detector.proofs.Reach.{scoreIn, score-stands}
 use Rattle.detector.proofs.Left.{settings-kept, entries-kept, entries-few}
-use Rattle.lent.specs.Places.{numbersLong, settingsLong, scoreLong, scoresLong, isState, settingsOf, scoresOf, entriesOf, stateOf, settingNumbers, callNumbers, placed}
+use Rattle.lent.specs.Places.{numbersLong, settingsLong, scoreLong, isState, settingsOf, scoresOf, entriesOf, stateOf, settingNumbers, callNumbers, placed}
 use Rattle.lent.specs.Lent.{freshFault, freshNumbers, lentStep, numbersAfter, scoresAfter}
+use Rattle.lent.proofs.Sizes.{state-long}
 use Rattle.lent.proofs.Scores.{take-least}
 
 -- ---- the numbers
@@ -87,11 +85,11 @@ module _ (ns : List ℕ) (xs : List Float) (c : Call) (is : isState ns xs ≡ tr
   abbrev lent : Outcome
   lent = lentStep ns xs c
 
-  stepped : lent ≡ stepOf (stateOf ns xs) c
+  pub stepped : lent ≡ stepOf (stateOf ns xs) c
   stepped = rw is
 
   size : length ns ≡ numbersLong
-  size = eqb-true (length ns) numbersLong (and-both (eqb (length ns) numbersLong) (eqb (length xs) scoresLong) is .0)
+  size = state-long ns xs is .0
 
   -- after an accepted call the places hold the next state
   pub carried : (v : Verdict) → lent .answer ≡ gives v → stateOf (numbersAfter lent ns) (scoresAfter lent xs) ≡ lent .state

@@ -11,7 +11,7 @@ use Rattle.state.specs.State.{Call}
 use Rattle.detector.specs.declared.StepAnswer.{StepAnswer}
 use Rattle.detector.specs.Step.{isRefused, stepAnswer}
 use Rattle.detector.specs.Histories.{Detector}
-use Rattle.lent.specs.Places.{settingsLong, scoreLong}
+use Rattle.lent.specs.Places.{scoreLong, offsetPlace, firstNumberPlace, releasePlace, countPlace}
 use Rattle.lent.specs.Lent.{freshFault, freshNumbers, lentStep, numbersAfter, scoresAfter}
 
 pub record Places : Type 0 where
@@ -34,19 +34,6 @@ byPlaces = record {
 
 -- ---- what of two pairs of places demand 3 compares
 
--- where the offset, the first number, the release number and the count stand among the numbers
-abbrev pub offsetPlace : ℕ
-offsetPlace = settingsLong
-
-abbrev pub firstPlace : ℕ
-firstPlace = settingsLong + 3
-
-abbrev pub releasePlace : ℕ
-releasePlace = settingsLong + 4
-
-abbrev pub countPlace : ℕ
-countPlace = settingsLong + 5
-
 abbrev pub numberAt : ℕ → Places → ℕ
 numberAt i p = getD (p .numbers) i 0
 
@@ -56,9 +43,9 @@ doubleAt k j p = getD (p .scores) (k * scoreLong + j) nan
 
 -- all numbers, with the first and the release number set to 0
 abbrev pub comparedNumbers : Places → List ℕ
-comparedNumbers p = set (set (p .numbers) firstPlace 0) releasePlace 0
+comparedNumbers p = set (set (p .numbers) firstNumberPlace 0) releasePlace 0
 
--- these numbers; all scores below the count; and the score at the offset, where there is one
+-- these numbers; all scores below the count; and the score at the offset, once there is one
 pub record SamePlaces (p q : Places) : Type 0 where
   pub numbers : comparedNumbers p ≡ comparedNumbers q
   pub scores : (k j : ℕ) → k < numberAt countPlace p → j < scoreLong → doubleAt k j p ≡ doubleAt k j q

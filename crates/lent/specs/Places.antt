@@ -64,16 +64,35 @@ scoresOf (suc k) xs = frontScore xs ∷ scoresOf k (drop scoreLong xs)
 abbrev pub entriesOf : ℕ → List Float → List ScenecutResult
 entriesOf count xs = take count (scoresOf room xs)
 
+-- the places of what a call may change
+abbrev pub offsetPlace : ℕ
+offsetPlace = settingsLong
+
+abbrev pub lastNumberPlace : ℕ
+lastNumberPlace = settingsLong + 1
+
+abbrev pub lastLengthPlace : ℕ
+lastLengthPlace = settingsLong + 2
+
+abbrev pub firstNumberPlace : ℕ
+firstNumberPlace = settingsLong + 3
+
+abbrev pub releasePlace : ℕ
+releasePlace = settingsLong + 4
+
+abbrev pub countPlace : ℕ
+countPlace = settingsLong + 5
+
 abbrev pub stateOf : List ℕ → List Float → View
 stateOf ns xs = record {
   settings = settingsOf ns;
-  entries = entriesOf (getD ns 12 0) xs;
-  count = getD ns 12 0;
-  offset = getD ns 7 0;
-  lastNumber = getD ns 8 0;
-  lastLength = getD ns 9 0;
-  firstNumber = getD ns 10 0;
-  release = getD ns 11 0;
+  entries = entriesOf (getD ns countPlace 0) xs;
+  count = getD ns countPlace 0;
+  offset = getD ns offsetPlace 0;
+  lastNumber = getD ns lastNumberPlace 0;
+  lastLength = getD ns lastLengthPlace 0;
+  firstNumber = getD ns firstNumberPlace 0;
+  release = getD ns releasePlace 0;
 }
 
 -- ---- writing

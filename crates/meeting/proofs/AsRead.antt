@@ -2,17 +2,19 @@
 use mathlib.Core.Path.{_≡_, refl, sym, _∙_, ap}
 use mathlib.Core.Bool.{Bool, true, false, cond}
 use mathlib.Core.List.{List, [], _∷_, map, nil≢cons, head-eq-of-cons-eq, tail-eq-of-cons-eq}
-use Prim.Native.Nat.{ℕ}
+use Prim.Native.Nat.{ℕ, _+_, _≤_}
 use Rattle.settings.specs.declared.Settings.{Settings}
-use Rattle.settings.specs.Settings.{isFast}
+use Rattle.settings.specs.Settings.{normalLookahead, isFast}
+use Rattle.score.specs.declared.Measure.{Measure}
 use Rattle.state.specs.State.{View, Call, call}
 use Rattle.state.specs.Refusals.{stepFault}
 use Rattle.state.proofs.Fine.{unread}
-use Rattle.detector.specs.Step.{Outcome, stepOf}
+use Rattle.detector.specs.Step.{Outcome, itemIn, stepOf}
 use Rattle.detector.specs.Runs.{compared, stateAfter}
 use Rattle.detector.proofs.Left.{settings-kept}
 use Rattle.detector.proofs.Views.{Alike, alike, unread-blind}
-use Rattle.meeting.specs.Calls.{asRead, Agree, FullSets}
+use Rattle.meeting.specs.Calls.{asRead, Agree, All, OneMeasurement, FullSets}
+use Rattle.meeting.proofs.Lists.{all-so}
 use Rattle.meeting.proofs.ClosedForm.{span, Item, itemAt, scoredThen, lastCall}
 
 -- ---- what they score
@@ -104,6 +106,15 @@ same-full g (c ∷ cs) (d ∷ ds) e f =
 
 pub same-agree : (g : Settings) (c y z : Call) → asRead g y ≡ asRead g z → Agree g c y → Agree g c z
 same-agree g c y z e a j k h l n =
-    let size : y .setLength ≡ z .setLength = ap (λ (x : Call). x .setLength) e in
     let number : y .number ≡ z .number = ap (λ (x : Call). x .number) e in
-    a j k h (rw size l) (rw number n) ∙ ap (λ (i : Item). i .measure) (same-item g y z k e)
+    a j k h l (rw number n) ∙ ap (λ (i : Item). i .measure) (same-item g y z k e)
+
+-- one measurement per pair: where every call takes its items from one film, all agree
+module _ (g : Settings) (pairs : ℕ → Measure) where
+  abbrev pub OfFilm : Call → Type 0
+  OfFilm c = (k : ℕ) → k ≤ normalLookahead → itemIn g c k ≡ pairs (c .number + k)
+
+  pub film-agrees : (cs : List Call) → All OfFilm cs → OneMeasurement g cs
+  film-agrees cs f =
+      all-so OfFilm (λ (a : Call). All (Agree g a) cs)
+      (λ a p. all-so OfFilm (Agree g a) (λ b q j k h l e. p j h ∙ ap pairs e ∙ sym (q k l)) cs f) cs f

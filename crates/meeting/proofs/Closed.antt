@@ -11,14 +11,16 @@ use lib.ListN.{length, take, length-append}
 use lib.Seq.{take-all, take-take, take-append-le}
 use lib.Ieee.{Float}
 use borrow.Author.Tests.{ltb-true, ltb-false}
+use Rattle.settings.specs.declared.Settings.{Settings}
 use Rattle.score.specs.declared.ScenecutResult.{ScenecutResult}
 use Rattle.score.specs.declared.Measure.{Measure}
 use Rattle.score.specs.Deque.{trimmedTo}
 use Rattle.score.specs.Scores.{zeroF, forwardOf, withForward, updatedFrom, updatedOf, scoreOf}
 use Rattle.score.proofs.Walk.{backward-walk}
 use Rattle.score.proofs.Update.{update-take}
+use Rattle.state.specs.State.{Call}
 use Rattle.meeting.proofs.Lists.{take-map}
-use Rattle.meeting.proofs.ClosedForm.{span, Item, cost, forwardFrom, entryOf, closedEntriesOf}
+use Rattle.meeting.proofs.ClosedForm.{span, Item, cost, firstItems, forwardFrom, entryOf, closedEntriesOf}
 
 abbrev inter : ScenecutResult → Float
 inter e = e .«inter_cost»
@@ -118,3 +120,9 @@ trim most l h = by (ltb most (length l)) refl
         let n : length l - 1 ≡ most = omega (arith, ltb-true most (length l) e) in
         rw n
     by false e = sym (take-all most l (ltb-false most (length l) e))
+
+-- so many first items
+pub first-long : (g : Settings) (c : Call) (k : ℕ) → length (firstItems g c k) ≡ k
+unfolding firstItems
+first-long g c zero = refl
+first-long g c (suc k) = ap suc (first-long g c k)

@@ -13,7 +13,7 @@ use Rattle.score.specs.declared.Measure.{Measure}
 use Rattle.score.specs.Deque.{scoreFrom}
 use Rattle.score.specs.Scores.{zeroF, maxF, walkBack, forwardOf, fastScore}
 use Rattle.state.specs.State.{View, Call}
-use Rattle.meeting.specs.Calls.{itemIn}
+use Rattle.detector.specs.Step.{itemIn}
 
 -- how many pairs on each side an adjusted cost is taken over: o, which is A
 abbrev pub span : ℕ
@@ -73,7 +73,7 @@ entryOf true level later i earlier = fastScore level (cost i)
 entryOf false level later i earlier =
     scoreFrom (cost i) (i .measure .importance) (backwardCost i earlier) (forwardCost i later) (i .measure .threshold)
 
--- the entries of all pairs of a history, where `later` were scored after them
+-- the entries of all pairs that were scored, where `later` were scored after them
 abbrev pub closedEntriesOf : Bool → Float → List Float → List Item → List ScenecutResult
 closedEntriesOf fast level later [] = []
 closedEntriesOf fast level later (i ∷ earlier) = entryOf fast level later i earlier ∷ closedEntriesOf fast level (cost i ∷ later) earlier

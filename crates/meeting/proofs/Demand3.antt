@@ -44,6 +44,7 @@ module _ (D : Detector) (S : Shows D) where
   settled : (g : Settings) (h : History D g) → S .seen (keptAfter D (h .begun) (h .made)) .settings ≡ g
   settled g h = ap (λ (s : View). s .settings) (left g h .0) ∙ settings-after (freshView g) (acceptedIn D (h .made))
 
+  -- the states meet
   met : (g : Settings) (d : ℕ) (old new : History D g) → Restart g d (acceptedIn D (old .made)) (acceptedIn D (new .made))
       → compared (S .seen (keptAfter D (old .begun) (old .made))) ≡ compared (S .seen (keptAfter D (new .begun) (new .made)))
   met g d old new r =
@@ -51,7 +52,7 @@ module _ (D : Detector) (S : Shows D) where
       ∙ calls-meet g d (acceptedIn D (old .made)) (acceptedIn D (new .made)) r (left g old .1) (left g new .1)
       ∙ sym (ap compared (left g new .0))
 
-  -- 2. and every later reply is the same
+  -- and every later reply is the same
   stay : (g : Settings) (k l : D .Kept) (us vs : List (Made D)) → S .Sound k → S .Sound l → S .seen k .settings ≡ g → S .seen l .settings ≡ g
       → compared (S .seen k) ≡ compared (S .seen l) → Follows D k us → Follows D l vs → map (asRead g) (callsIn D us) ≡ map (asRead g) (callsIn D vs)
       → (repliesIn D us ≡ repliesIn D vs) × (compared (S .seen (keptAfter D k us)) ≡ compared (S .seen (keptAfter D l vs)))
@@ -69,7 +70,7 @@ module _ (D : Detector) (S : Shows D) where
       (ap compared one ∙ both .1 ∙ sym (ap compared two)) (f .1) (h .1) (tail-eq-of-cons-eq same) in
       (rw (reply, rest .0), rest .1)
 
-  -- 3. the fresh one accepts the old one's calls
+  -- the fresh one accepts the old one's calls
   accepts-all : Acceptance D
   accepts-all g d old new full same =
       let b = S .begins g (new .begun) (new .fresh) in
@@ -86,7 +87,7 @@ module _ (D : Detector) (S : Shows D) where
       takes D S g (stateAfter (freshView g) (take d cs)) (new .begun) (drop d cs) (new .made) behind (parts .1) full (b .0) (new .follows) same
 
   -- all three, where states that show the same but for the two numbers are alike
-  pub demand3 : (Alike : D .Kept → D .Kept → Type 0)
+  demand3 : (Alike : D .Kept → D .Kept → Type 0)
       → ((k l : D .Kept) → S .Sound k → S .Sound l → compared (S .seen k) ≡ compared (S .seen l) → Alike k l) → Demand3 D Alike
   demand3 Alike alike = record {
     meeting = λ g d old new r. alike _ _ (sound g old) (sound g new) (met g d old new r);

@@ -13,7 +13,7 @@ module _ {A B : Type 0} (f : A → B) where
   take-map (suc n) [] = refl
   take-map (suc n) (x ∷ l) = ap (λ (r : List B). f x ∷ r) (take-map n l)
 
-  pub drop-map : (n : ℕ) (l : List A) → drop n (map f l) ≡ map f (drop n l)
+  drop-map : (n : ℕ) (l : List A) → drop n (map f l) ≡ map f (drop n l)
   drop-map zero l = refl
   drop-map (suc n) [] = refl
   drop-map (suc n) (x ∷ l) = drop-map n l

@@ -30,7 +30,7 @@ use Rattle.meeting.proofs.AsRead.{same-item, same-scored, same-last, sa
 use Rattle.meeting.proofs.Settle.{calls-closed}
 use Rattle.meeting.proofs.Newest.{scored-parts, scored-front, scored-long, take-behind, InTurn, in-turn, newest-same}
 
--- ---- 1. the states meet
+-- ---- the states meet
 
 -- after so many calls the pairs that ten entries depend on are scored
 enough : (fast : Bool) (j : ℕ) → callsToMeet fast ≤ suc j → pairsNeeded fast keeps ≤ j + suc span

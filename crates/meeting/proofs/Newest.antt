@@ -4,7 +4,7 @@
 use mathlib.Core.Path.{_≡_, refl, sym, _∙_, ap, subst}
 use mathlib.Core.Bool.{true}
 use mathlib.Core.List.{List, [], _∷_, _++_, append-assoc}
-use Prim.Native.Nat.{ℕ, zero, suc, _+_, _-_, _≤_, _<_}
+use Prim.Native.Nat.{ℕ, zero, suc, _+_, _-_, _≤_}
 use native.Mathlib.Omega.{arith}
 use borrow.Author.Tests.{eqb-true}
 use lib.Dec.{eqb}
@@ -20,7 +20,7 @@ use Rattle.detector.specs.Runs.{allAccepted}
 use Rattle.detector.proofs.Cases.{leaves}
 use Rattle.meeting.specs.Calls.{Agree, All, fullSet, FullSets}
 use Rattle.meeting.proofs.ClosedForm.{span, Item, itemAt, firstItems, scoredThen, lastCall}
-use Rattle.meeting.proofs.Settle.{first-long}
+use Rattle.meeting.proofs.Closed.{first-long}
 
 -- ---- what further calls score stands in front of what was scored
 
@@ -74,17 +74,17 @@ in-turn s b (c ∷ cs) e h t =
 module _ (g : Settings) (z : Call) where
   -- a pair that this call has too is the same there
   abbrev Same : Item → Type 0
-  Same i = (k : ℕ) → k < z .setLength - 1 → i .pair ≡ z .number + k → i ≡ itemAt g z k
+  Same i = (k : ℕ) → k ≤ span → i .pair ≡ z .number + k → i ≡ itemAt g z k
 
   -- pairs below q that fall by one
   abbrev Lined : ℕ → List Item → Type 0
   Lined q [] = Unit {0}
   Lined q (i ∷ l) = (suc (i .pair) ≡ q) × Same i × Lined (i .pair) l
 
-  same-at : (c : Call) (j : ℕ) → Agree g c z → j < c .setLength - 1 → Same (itemAt g c j)
+  same-at : (c : Call) (j : ℕ) → Agree g c z → j ≤ span → Same (itemAt g c j)
   same-at c j a h k l e = rw (e, a j k h l e)
 
-  first-lined : (c : Call) (k : ℕ) → Agree g c z → k ≤ c .setLength - 1 → Lined (c .number + k) (firstItems g c k)
+  first-lined : (c : Call) (k : ℕ) → Agree g c z → k ≤ suc span → Lined (c .number + k) (firstItems g c k)
   unfolding firstItems
   first-lined c zero a h = tt
   first-lined c (suc k) a h = (omega arith, same-at c k a (omega arith), first-lined c k a (omega arith))
@@ -99,7 +99,7 @@ module _ (g : Settings) (z : Call) where
       then-lined c (itemAt g c span ∷ past) cs
       (omega arith, same-at c span (a .0) (omega arith), subst (λ (q : ℕ). Lined q past) e l) (t .1) (a .1) (full .1)
 
-  lined-same : (k q : ℕ) (l : List Item) → Lined q l → q ≡ z .number + k → k ≤ length l → k ≤ z .setLength - 1 → take k l ≡ firstItems g z k
+  lined-same : (k q : ℕ) (l : List Item) → Lined q l → q ≡ z .number + k → k ≤ length l → k ≤ suc span → take k l ≡ firstItems g z k
   unfolding firstItems
   lined-same zero q l w e h n = refl
   lined-same (suc k) q [] w e h n = absurd (omega arith)

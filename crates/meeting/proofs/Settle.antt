@@ -18,19 +18,14 @@ use Rattle.state.specs.State.{View, Call}
 use Rattle.state.specs.Refusals.{stepFault}
 use Rattle.state.proofs.Tests.{and-both}
 use Rattle.detector.specs.Rules.{Turn, itemsOf, rule4, rule5}
-use Rattle.detector.specs.Step.{progressOf, stepOf}
+use Rattle.detector.specs.Step.{itemIn, progressOf, stepOf}
 use Rattle.detector.specs.Runs.{compared, stateAfter, allAccepted}
 use Rattle.detector.specs.Fresh.{freshView}
 use Rattle.detector.proofs.Cases.{step-scored}
 use Rattle.detector.proofs.Views.{fault-blind, step-blind}
-use Rattle.meeting.specs.Calls.{itemIn, fullSet, FullSets}
+use Rattle.meeting.specs.Calls.{fullSet, FullSets}
 use Rattle.meeting.proofs.ClosedForm.{span, keeps, Item, itemAt, firstItems, scoredThen, lastCall, closedEntriesOf, closedDeque, stateWith}
-use Rattle.meeting.proofs.Closed.{score-entries, score-take, entries-long, trim}
-
-pub first-long : (g : Settings) (c : Call) (k : ℕ) → length (firstItems g c k) ≡ k
-unfolding firstItems
-first-long g c zero = refl
-first-long g c (suc k) = ap suc (first-long g c k)
+use Rattle.meeting.proofs.Closed.{score-entries, score-take, entries-long, first-long, trim}
 
 module _ (g : Settings) (mode : isNone g ≡ false) (lookahead : normalLookahead ≤ g .«lookahead_distance») where
   abbrev fast : Bool

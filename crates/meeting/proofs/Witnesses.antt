@@ -3,10 +3,10 @@
 -- so has the fresh one; and in Fast mode their unread lists differ. So no statement asks for more than that. In this crate, here alone,
 -- definitions of other crates are opened: calls are computed by all of them.
 -- Assumes nothing.
-use mathlib.Core.Path.{_≡_, refl, sym, _∙_, ap}
+use mathlib.Core.Path.{_≡_, refl, sym, _∙_}
 use mathlib.Core.Bool.{true, _||_, cond}
 use mathlib.Core.List.{List, [], _∷_, _++_}
-use Prim.Native.Nat.{ℕ, zero, suc, _+_, _-_, _≤_, _<_}
+use Prim.Native.Nat.{ℕ, zero, suc, _+_, _-_, _≤_}
 use native.Mathlib.Omega.{arith}
 use lib.Dec.{eqb}
 use lib.IntN.{pos}
@@ -27,19 +27,20 @@ use Rattle.state.specs.Refusals.{stateFault, numberFault, lengthFault, stopFaul
 use Rattle.detector.specs.Fresh.{freshView}
 use Rattle.detector.specs.Step.{acceptedOf, stepOf}
 use Rattle.detector.specs.Runs.{stateAfter}
-use Rattle.detector.specs.Histories.{Detector, acceptedIn, History, lastKept, byValue}
+use Rattle.detector.specs.Histories.{Detector, lastKept, acceptedCalls, byValue}
 use Rattle.detector.proofs.Histories.{Shows, value-shows}
 use Rattle.detector.proofs.Makes.{Makes, acceptedAmong, historyOf, history-accepted, stateBy, fresh-begins, value-makes}
 use Rattle.lent.specs.Places.{isState}
-use Rattle.lent.specs.Histories.{SamePlaces}
+use Rattle.lent.specs.Lent.{freshFault}
+use Rattle.lent.specs.Histories.{byPlaces, SamePlaces}
 use Rattle.lent.proofs.Sizes.{fresh-state}
-use Rattle.lent.proofs.Histories.{freshPlaces}
+use Rattle.lent.proofs.Histories.{places-show, places-make, places-begin, freshPlaces}
 use Rattle.brinepulley.specs.Histories.{inC}
 use Rattle.brinepulley.proofs.Histories.{c-shows, c-makes, c-begins}
-use Rattle.meeting.specs.Calls.{itemIn, Agree, All, fullSet}
-use Rattle.meeting.specs.Meeting.{Restart, SameState}
-use Rattle.meeting.proofs.Lists.{all-so}
-use Rattle.meeting.proofs.Demand3.{value-demand3, c-demand3}
+use Rattle.meeting.specs.Calls.{All, fullSet}
+use Rattle.meeting.specs.Meeting.{Restart, Demand3, SameState}
+use Rattle.meeting.proofs.AsRead.{OfFilm, film-agrees}
+use Rattle.meeting.proofs.Demand3.{proved}
 
 -- ---- a film, every pair alike but two, and calls of seven frames over it
 
@@ -67,17 +68,30 @@ callsFrom f a (suc j) = f a ∷ callsFrom f (suc a) j
 
 -- ---- two lists of calls with refused ones among them
 
--- calls 1 and 2 and then from 3 on, 4 + j of them; refused are number 0 (7), a longer set (8) and a list that is too short (10)
+-- behind the meeting: a set of two frames, whose pair is measured otherwise
+abbrev shortCall : ℕ → Call
+shortCall n = call 2 n 0 (whole 9 ∷ []) (whole 9 ∷ []) (whole 9 ∷ [])
+
+-- from 3 on: 4 + j calls until they meet, and one behind that
+abbrev newAccepted : (ℕ → Call) → ℕ → List Call
+newAccepted late j = callsFrom late 3 (4 + j) ++ (shortCall (7 + j) ∷ [])
+
+-- refused is a set of 17 frames (8)
+abbrev newCalls : (ℕ → Call) → ℕ → List Call
+newCalls late j = call 17 3 0 [] [] [] ∷ newAccepted late j
+
+-- calls 1 and 2, and then the same
+abbrev oldAccepted : (ℕ → Call) → (ℕ → Call) → ℕ → List Call
+oldAccepted early late j = early 1 ∷ early 2 ∷ newAccepted late j
+
+-- refused are number 0 (7), a longer set (8) and a list that is too short (10)
 abbrev oldCalls : (ℕ → Call) → (ℕ → Call) → ℕ → List Call
 oldCalls early late j =
-    late 0 ∷ early 1 ∷ call 8 2 0 [] [] [] ∷ early 2 ∷ (callsFrom late 3 4 ++ (call 7 7 0 [] [] [] ∷ callsFrom late 7 j))
+    late 0 ∷ early 1 ∷ call 8 2 0 [] [] [] ∷ early 2 ∷ (callsFrom late 3 4 ++ (call 7 7 0 [] [] [] ∷ (callsFrom late 7 j ++ (shortCall (7 + j) ∷ []))))
 
-abbrev oldAccepted : (ℕ → Call) → (ℕ → Call) → ℕ → List Call
-oldAccepted early late j = early 1 ∷ early 2 ∷ callsFrom late 3 (4 + j)
-
--- the same from 3 on; refused is a set of 17 frames (8)
-abbrev newCalls : (ℕ → Call) → ℕ → List Call
-newCalls late j = call 17 3 0 [] [] [] ∷ callsFrom late 3 (4 + j)
+-- the old one's until they meet
+abbrev oldUntil : (ℕ → Call) → (ℕ → Call) → ℕ → List Call
+oldUntil early late j = early 1 ∷ early 2 ∷ callsFrom late 3 (4 + j)
 
 abbrev plainSettings : ℕ → Settings
 plainSettings mode = record {
@@ -113,133 +127,135 @@ abbrev newFast : ℕ → Call
 newFast n = fastCall (nan ∷ []) 0 n
 
 tested : ((acceptedAmong (freshView standard) (oldCalls earlyStandard lateStandard 6) ≡ oldAccepted earlyStandard lateStandard 6)
-    × (acceptedAmong (freshView standard) (newCalls lateStandard 6) ≡ callsFrom lateStandard 3 10))
+    × (acceptedAmong (freshView standard) (newCalls lateStandard 6) ≡ newAccepted lateStandard 6))
     × ((acceptedAmong (freshView fast) (oldCalls earlyFast oldFast 1) ≡ oldAccepted earlyFast oldFast 1)
-    × (acceptedAmong (freshView fast) (newCalls newFast 1) ≡ callsFrom newFast 3 5))
+    × (acceptedAmong (freshView fast) (newCalls newFast 1) ≡ newAccepted newFast 1))
 unfolding
     acceptedAmong callsFrom table stepOf acceptedOf stepFault stateFault numberFault lengthFault stopFault listsFault settingsFault
     sizeFault depthFault badSide anyOf walkBack backwardOf isScaled fastThreshold answered factorBy scaleOf _orElse_ ofBits ofInt sub mul div
     lt le eq
 tested = ((refl, refl), (refl, refl))
 
--- ---- one measurement per pair: where every call takes its items from one film, all agree
-
-module _ (g : Settings) (pairs : ℕ → Measure) where
-  abbrev OfFilm : Call → Type 0
-  OfFilm c = (k : ℕ) → k < c .setLength - 1 → itemIn g c k ≡ pairs (c .number + k)
-
-  film-agrees : (cs : List Call) → All OfFilm cs → All (λ (a : Call). All (Agree g a) cs) cs
-  film-agrees cs f =
-      all-so OfFilm (λ (a : Call). All (Agree g a) cs)
-      (λ a p. all-so OfFilm (Agree g a) (λ b q j k h l e. p j h ∙ ap pairs e ∙ sym (q k l)) cs f) cs f
+-- ---- what is asked of the old one's calls until they meet
 
 from-all : (P : Call → Type 0) (f : ℕ → Call) → ((n : ℕ) → P (f n)) → (a j : ℕ) → All P (callsFrom f a j)
 unfolding callsFrom
 from-all P f p a zero = tt
 from-all P f p a (suc j) = (p a, from-all P f p (suc a) j)
 
-old-all : (P : Call → Type 0) (early late : ℕ → Call) (j : ℕ) → ((n : ℕ) → P (early n)) → ((n : ℕ) → P (late n)) → All P (oldAccepted early late j)
+old-all : (P : Call → Type 0) (early late : ℕ → Call) (j : ℕ) → ((n : ℕ) → P (early n)) → ((n : ℕ) → P (late n)) → All P (oldUntil early late j)
 old-all P early late j p q = (p 1, (p 2, from-all P late q 3 (4 + j)))
 
 abbrev standardPairs : ℕ → Measure
 standardPairs q = record { inter = cost q; importance = whole q; threshold = whole q }
 
 standard-film : (p n : ℕ) → OfFilm standard standardPairs (standardCall p n)
-standard-film p n k h = rw (table-at nan 6 (λ (i : ℕ). cost (n + i)) k h, table-at nan 6 (λ (i : ℕ). whole (n + i)) k h)
+standard-film p n k h = rw (table-at nan 6 (λ (i : ℕ). cost (n + i)) k (omega arith), table-at nan 6 (λ (i : ℕ). whole (n + i)) k (omega arith))
 
 abbrev fastPairs : ℕ → Measure
 fastPairs q = record { inter = cost q; importance = zeroF; threshold = zeroF }
 
 fast-film : (others : List Float) (p n : ℕ) → OfFilm fast fastPairs (fastCall others p n)
-fast-film others p n k h = rw (table-at nan 6 (λ (i : ℕ). cost (n + i)) k h)
+fast-film others p n k h = rw (table-at nan 6 (λ (i : ℕ). cost (n + i)) k (omega arith))
 
 -- ---- every hypothesis
 
-standard-calls : Restart standard 2 (oldAccepted earlyStandard lateStandard 6) (callsFrom lateStandard 3 10)
+standard-calls : Restart standard 2 (oldAccepted earlyStandard lateStandard 6) (newAccepted lateStandard 6)
 unfolding callsFrom
 standard-calls = record {
   mode = refl;
   lookahead = omega arith;
-  measured = film-agrees standard standardPairs (oldAccepted earlyStandard lateStandard 6)
+  measured = film-agrees standard standardPairs (oldUntil earlyStandard lateStandard 6)
       (old-all (OfFilm standard standardPairs) earlyStandard lateStandard 6 (λ n. standard-film n n) (standard-film 0));
   same = refl;
   full = old-all (λ (c : Call). fullSet ≤ c .setLength) earlyStandard lateStandard 6 (λ n. omega arith) (λ n. omega arith);
   enough = omega arith;
 }
 
-fast-calls : Restart fast 2 (oldAccepted earlyFast oldFast 1) (callsFrom newFast 3 5)
+fast-calls : Restart fast 2 (oldAccepted earlyFast oldFast 1) (newAccepted newFast 1)
 unfolding callsFrom
 fast-calls = record {
   mode = refl;
   lookahead = omega arith;
-  measured = film-agrees fast fastPairs (oldAccepted earlyFast oldFast 1)
+  measured = film-agrees fast fastPairs (oldUntil earlyFast oldFast 1)
       (old-all (OfFilm fast fastPairs) earlyFast oldFast 1 (λ n. fast-film [] n n) (fast-film [] 0));
   same = refl;
   full = old-all (λ (c : Call). fullSet ≤ c .setLength) earlyFast oldFast 1 (λ n. omega arith) (λ n. omega arith);
   enough = omega arith;
 }
 
--- ---- of a detector that runs: its histories of these calls, from a fresh one on
+-- ---- of a detector that runs: its histories of these calls, from a fresh one on, satisfy the hypotheses, so they have met
+
+abbrev oldStandard : List Call
+oldStandard = oldCalls earlyStandard lateStandard 6
+
+abbrev newStandard : List Call
+newStandard = newCalls lateStandard 6
+
+abbrev oldInFast : List Call
+oldInFast = oldCalls earlyFast oldFast 1
+
+abbrev newInFast : List Call
+newInFast = newCalls newFast 1
+
+module _ (D : Detector) (M : Makes D) (Alike : D .Kept → D .Kept → Type 0) where
+  -- two histories that begin with k
+  abbrev pub Met : (g : Settings) → List Call → List Call → Type 0
+  Met g old new = (k : D .Kept) (b : D .Begins g k) → Alike (lastKept (historyOf D M g k b old)) (lastKept (historyOf D M g k b new))
+
+  abbrev pub BothMet : Type 0
+  BothMet = Met standard oldStandard newStandard × Met fast oldInFast newInFast
 
 module _ (D : Detector) (S : Shows D) (M : Makes D) where
-  module _ (k : D .Kept) (b : D .Begins standard k) where
-    abbrev pub oldStandard : History D standard
-    oldStandard = historyOf D M standard k b (oldCalls earlyStandard lateStandard 6)
+  pub standard-restart : (k : D .Kept) (b : D .Begins standard k)
+      → Restart standard 2 (acceptedCalls (historyOf D M standard k b oldStandard)) (acceptedCalls (historyOf D M standard k b newStandard))
+  standard-restart k b =
+      rw (history-accepted D M S standard k b oldStandard ∙ tested .0 .0, history-accepted D M S standard k b newStandard ∙ tested .0 .1) standard-calls
 
-    abbrev pub newStandard : History D standard
-    newStandard = historyOf D M standard k b (newCalls lateStandard 6)
+  pub fast-restart : (k : D .Kept) (b : D .Begins fast k)
+      → Restart fast 2 (acceptedCalls (historyOf D M fast k b oldInFast)) (acceptedCalls (historyOf D M fast k b newInFast))
+  fast-restart k b =
+      rw (history-accepted D M S fast k b oldInFast ∙ tested .1 .0, history-accepted D M S fast k b newInFast ∙ tested .1 .1) fast-calls
 
-    pub standard-restart : Restart standard 2 (acceptedIn D (oldStandard .made)) (acceptedIn D (newStandard .made))
-    standard-restart =
-        rw (
-          history-accepted D M S standard k b (oldCalls earlyStandard lateStandard 6) ∙ tested .0 .0,
-          history-accepted D M S standard k b (newCalls lateStandard 6) ∙ tested .0 .1,
-        ) standard-calls
+  both-met : (Alike : D .Kept → D .Kept → Type 0) → Demand3 D Alike → BothMet D M Alike
+  both-met Alike p = (
+    λ k b. p .meeting standard 2 (historyOf D M standard k b oldStandard) (historyOf D M standard k b newStandard) (standard-restart k b),
+    λ k b. p .meeting fast 2 (historyOf D M fast k b oldInFast) (historyOf D M fast k b newInFast) (fast-restart k b),
+  )
 
-  module _ (k : D .Kept) (b : D .Begins fast k) where
-    abbrev pub oldInFast : History D fast
-    oldInFast = historyOf D M fast k b (oldCalls earlyFast oldFast 1)
+pub value-met : BothMet byValue value-makes SameState
+value-met = both-met byValue value-shows value-makes SameState (proved .value)
 
-    abbrev pub newInFast : History D fast
-    newInFast = historyOf D M fast k b (newCalls newFast 1)
+pub places-met : BothMet byPlaces places-make SamePlaces
+places-met = both-met byPlaces places-show places-make SamePlaces (proved .places)
 
-    pub fast-restart : Restart fast 2 (acceptedIn D (oldInFast .made)) (acceptedIn D (newInFast .made))
-    fast-restart =
-        rw (
-          history-accepted D M S fast k b (oldCalls earlyFast oldFast 1) ∙ tested .1 .0,
-          history-accepted D M S fast k b (newCalls newFast 1) ∙ tested .1 .1,
-        ) fast-calls
+pub c-met : BothMet inC c-makes SamePlaces
+c-met = both-met inC c-shows c-makes SamePlaces (proved .forC)
 
--- ---- there are such: by value, and in C, where the places held anything of their lengths before
+-- ---- each of the three has a fresh detector of these settings; the lent places held anything of their lengths before
 
-pub settings-fine : (settingsFault standard ≡ 0) × (settingsFault fast ≡ 0)
+settings-fine : (settingsFault standard ≡ 0) × (settingsFault fast ≡ 0)
 unfolding settingsFault sizeFault depthFault badSide factorBy scaleOf answered _orElse_
 settings-fine = (refl, refl)
 
-pub value-meets : let s = stateBy (freshView standard) in
-    let b = fresh-begins standard (settings-fine .0) in
-    SameState (lastKept (oldStandard byValue value-shows value-makes s b)) (lastKept (newStandard byValue value-shows value-makes s b))
-value-meets =
-    let s = stateBy (freshView standard) in
-    let b = fresh-begins standard (settings-fine .0) in
-    value-demand3 .meeting standard 2 (oldStandard byValue value-shows value-makes s b) (newStandard byValue value-shows value-makes s b)
-    (standard-restart byValue value-shows value-makes s b)
+pub value-begins : byValue .Begins standard (stateBy (freshView standard)) × byValue .Begins fast (stateBy (freshView fast))
+value-begins = (fresh-begins standard (settings-fine .0), fresh-begins fast (settings-fine .1))
 
 module _ (ns : List ℕ) (xs : List Float) (is : isState ns xs ≡ true) where
-  pub begun : inC .Begins fast (freshPlaces ns xs fast)
-  begun = c-begins ns xs fast (fresh-state ns xs fast 0 is (sym (settings-fine .1)))
+  fine : (0 ≡ freshFault ns xs standard) × (0 ≡ freshFault ns xs fast)
+  fine = (fresh-state ns xs standard 0 is (sym (settings-fine .0)), fresh-state ns xs fast 0 is (sym (settings-fine .1)))
 
-  pub c-meets : let p = freshPlaces ns xs fast in SamePlaces (lastKept (oldInFast inC c-shows c-makes p begun)) (lastKept (newInFast inC c-shows c-makes p begun))
-  c-meets =
-      let p = freshPlaces ns xs fast in
-      c-demand3 .meeting fast 2 (oldInFast inC c-shows c-makes p begun) (newInFast inC c-shows c-makes p begun)
-      (fast-restart inC c-shows c-makes p begun)
+  pub places-begins : byPlaces .Begins standard (freshPlaces ns xs standard) × byPlaces .Begins fast (freshPlaces ns xs fast)
+  places-begins = (places-begin ns xs standard (fine .0), places-begin ns xs fast (fine .1))
+
+  pub in-c-begins : inC .Begins standard (freshPlaces ns xs standard) × inC .Begins fast (freshPlaces ns xs fast)
+  in-c-begins = (c-begins ns xs standard (fine .0), c-begins ns xs fast (fine .1))
 
 -- the release number has to be left out: of these two in Fast mode it is 1 and 3
 abbrev releaseAfter : List Call → ℕ
 releaseAfter cs = stateAfter (freshView fast) cs .release
 
-pub releases-apart : (releaseAfter (oldAccepted earlyFast oldFast 1) ≡ 1) × (releaseAfter (callsFrom newFast 3 5) ≡ 3)
+pub releases-apart : (releaseAfter (oldAccepted earlyFast oldFast 1) ≡ 1) × (releaseAfter (newAccepted newFast 1) ≡ 3)
 unfolding
     stateAfter callsFrom table stepOf acceptedOf stepFault stateFault numberFault lengthFault stopFault listsFault settingsFault
     sizeFault depthFault badSide anyOf isScaled fastThreshold answered factorBy scaleOf _orElse_ ofBits ofInt sub mul div lt le eq

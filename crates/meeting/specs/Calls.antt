@@ -2,27 +2,21 @@
 use mathlib.Core.Path.{_≡_}
 use mathlib.Core.List.{List, [], _∷_}
 use mathlib.Core.Bool.{cond}
-use Prim.Native.Nat.{ℕ, _+_, _-_, _≤_, _<_}
+use Prim.Native.Nat.{ℕ, _+_, _≤_}
 use Rattle.settings.specs.declared.Settings.{Settings}
-use Rattle.settings.specs.Settings.{isFast}
-use Rattle.score.specs.declared.Measure.{Measure}
+use Rattle.settings.specs.Settings.{normalLookahead, isFast}
 use Rattle.state.specs.State.{Call, call}
-use Rattle.detector.specs.Rules.{measureOf}
+use Rattle.detector.specs.Step.{itemIn}
 
--- number, set length, previous keyframe and the lists that are read: "Fast reads only inter costs"
+-- number, set length, previous keyframe, and the lists that Standard or Fast reads: "Fast reads only inter costs"
 abbrev pub asRead : Settings → Call → Call
 asRead g c =
     call (c .setLength) (c .number) (c .keyframe) (c .inter) (cond (isFast g) [] (c .importance)) (cond (isFast g) [] (c .threshold))
 
--- what is read of item k
-abbrev pub itemIn : Settings → Call → ℕ → Measure
-itemIn g c = measureOf (isFast g) (c .inter) (c .importance) (c .threshold)
-
--- wherever two calls read an item of the same pair, it is the same: "Item k of a list is pair n + k", "each list has L − 1 items". Any two
--- NaNs are the same, since floats have one NaN here
+-- wherever two calls read an item of the same pair, it is the same: "Item k of a list is pair n + k". It is asked of the items 0 to 5 alone,
+-- since no call with a full set scores another one. Any two NaNs are the same, as there is one NaN among the floats of the logic
 abbrev pub Agree : Settings → Call → Call → Type 0
-Agree g c d =
-    (j k : ℕ) → j < c .setLength - 1 → k < d .setLength - 1 → c .number + j ≡ d .number + k → itemIn g c j ≡ itemIn g d k
+Agree g c d = (j k : ℕ) → j ≤ normalLookahead → k ≤ normalLookahead → c .number + j ≡ d .number + k → itemIn g c j ≡ itemIn g d k
 
 -- what is said of every element of a list
 abbrev pub All : {A : Type 0} → (A → Type 0) → List A → Type 0

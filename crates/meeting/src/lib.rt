@@ -1,1 +1,1 @@
-// No function: theorems about the step of `detector`. Its definitions are what the code there is proved equal to.
+// No function: theorems about the detectors of `detector`, `lent` and `brinepulley`, by their contracts.
