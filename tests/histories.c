@@ -72,10 +72,10 @@ static double draw_threshold(void)
 
 void film_make(struct film *film, uint64_t first, size_t peak)
 {
+    const uint32_t kind = draw(KINDS);
     film->first = first;
-    film->kind = draw(KINDS);
     for (size_t i = 0; i < FILM_PAIRS; i++) {
-        film->inter[i] = draw_inter(film->kind, i % 5 == peak % 5);
+        film->inter[i] = draw_inter(kind, i % 5 == peak % 5);
         film->importance[i] = draw_importance();
         film->threshold[i] = draw_threshold();
     }

@@ -10,7 +10,6 @@ enum { FILM_PAIRS = 80 };
 /* A film: what was measured of each pair of frames. */
 struct film {
     uint64_t first; /* the number of the pair that stands first */
-    uint32_t kind;  /* which inter costs it has */
     double inter[FILM_PAIRS], importance[FILM_PAIRS], threshold[FILM_PAIRS];
 };
 
