@@ -5,7 +5,7 @@ use borrow.Fn.Kinds.{Dens, endedOf}
 use contract.Lifetimes.{Lfts}
 use denote.Ref.{now}
 use denote.Triple.Clauses.{AtExit}
-use Rattle.state.specs.State.{call}
+use Rattle.state.specs.State.{Call, call}
 use Rattle.state.specs.declared.State.{State}
 use Rattle.detector.specs.declared.StepAnswer.{StepAnswer}
 use Rattle.detector.specs.Histories.{byValue}
@@ -22,10 +22,13 @@ module _ (κs : Lfts 0) (a : Dens κs fresh-kinds.ps) (s : State) (e : AtExit (e
   fresh-meant p = p
 
 module _ (κs : Lfts 3) (a : Dens κs step-kinds.ps) (r : StepAnswer) (t : State) (e : AtExit (endedOf 3 step-kinds.ps step-kinds.r) κs) where
-  pub step-said : step-reads.Post κs a (record { answer = r; state = t }) e
-      → byValue .Allows (a .0) (call (a .1 .0) (a .1 .1 .0) (a .1 .1 .1 .0) (now (a .1 .1 .1 .1 .0)) (now (a .1 .1 .1 .1 .1 .0)) (now (a .1 .1 .1 .1 .1 .1 .0))) r t
+  -- the call that the arguments are
+  abbrev given : Call
+  given =
+      call (a .1 .0) (a .1 .1 .0) (a .1 .1 .1 .0) (now (a .1 .1 .1 .1 .0)) (now (a .1 .1 .1 .1 .1 .0)) (now (a .1 .1 .1 .1 .1 .1 .0))
+
+  pub step-said : step-reads.Post κs a (record { answer = r; state = t }) e → byValue .Allows (a .0) given r t
   step-said p = p
 
-  pub step-meant : byValue .Allows (a .0) (call (a .1 .0) (a .1 .1 .0) (a .1 .1 .1 .0) (now (a .1 .1 .1 .1 .0)) (now (a .1 .1 .1 .1 .1 .0)) (now (a .1 .1 .1 .1 .1 .1 .0))) r t
-      → step-reads.Post κs a (record { answer = r; state = t }) e
+  pub step-meant : byValue .Allows (a .0) given r t → step-reads.Post κs a (record { answer = r; state = t }) e
   step-meant p = p

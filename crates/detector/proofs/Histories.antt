@@ -18,8 +18,8 @@ use Rattle.detector.specs.Histories.{Detector, Made, Follows, keptAfter,
 use Rattle.detector.proofs.Cases.{step-cases, step-refused}
 use Rattle.detector.proofs.Unique.{answer-only}
 
--- What is kept shows a view, as long as it is sound; a fresh one shows the fresh view, each step that is allowed is `stepOf` of the view, and what
--- it replies is fixed by the answer that `stepOf` gives.
+-- What is kept shows a view, as long as it is sound; a fresh one shows the fresh view; each step that is allowed is `stepOf` of the view;
+-- and what it replies is fixed by the answer that `stepOf` gives.
 pub record Shows (D : Detector) : Type 1 where
   pub Sound : D .Kept → Type 0
   pub seen : D .Kept → View

@@ -1,5 +1,5 @@
--- Demand 3, of the three detectors that run: the state by value, the lent places, and the functions for C. Each keeps to the definitions, so a
--- history leaves what its accepted calls leave, and accepted calls meet (Meets.antt). The statements stand in specs/Meeting.antt.
+-- Demand 3, of the three detectors that run: the state by value, the lent places, and the functions for C. Each keeps to the definitions,
+-- so a history leaves what its accepted calls leave, and accepted calls meet (Meets.antt). The statements stand in specs/Meeting.antt.
 -- Assumes nothing.
 use mathlib.Core.Path.{_≡_, refl, sym, _∙_, ap}
 use mathlib.Core.Bool.{true, false}

@@ -1,5 +1,5 @@
--- Demand 3. Each deque is the first ten entries of the closed form of what its calls scored; these depend on the newest fifteen pairs alone,
--- ten in Fast mode, and both detectors have scored those. The statements stand in specs/Meeting.antt.
+-- Demand 3. Each deque is the first ten entries of the closed form of what its calls scored; these depend on the newest fifteen pairs
+-- alone, ten in Fast mode, and both detectors have scored those. The statements stand in specs/Meeting.antt.
 -- Assumes nothing.
 use mathlib.Core.Path.{_≡_, refl, sym, _∙_, ap}
 use mathlib.Core.Bool.{Bool, true, false}

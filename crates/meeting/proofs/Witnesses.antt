@@ -1,7 +1,7 @@
--- Every hypothesis of specs/Meeting.antt holds of two histories with sets of seven frames, in Standard mode and in Fast, of each of the three
--- detectors: computed, call by call. The old one begins two calls earlier, has keyframes of its own until then and refused calls strewn in;
--- so has the fresh one; and in Fast mode their unread lists differ. So no statement asks for more than that. In this crate, here alone,
--- definitions of other crates are opened: calls are computed by all of them.
+-- Every hypothesis of specs/Meeting.antt holds of two histories with sets of seven frames, in Standard mode and in Fast, of each of the
+-- three detectors: computed, call by call. The old one begins two calls earlier, has keyframes of its own until then and refused calls
+-- strewn in; so has the fresh one; and in Fast mode their unread lists differ. So no statement asks for more than that. In this crate,
+-- here alone, definitions of other crates are opened: calls are computed by all of them.
 -- Assumes nothing.
 use mathlib.Core.Path.{_≡_, refl, sym, _∙_}
 use mathlib.Core.Bool.{true, _||_, cond}

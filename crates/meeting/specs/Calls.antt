@@ -13,8 +13,8 @@ abbrev pub asRead : Settings → Call → Call
 asRead g c =
     call (c .setLength) (c .number) (c .keyframe) (c .inter) (cond (isFast g) [] (c .importance)) (cond (isFast g) [] (c .threshold))
 
--- wherever two calls read an item of the same pair, it is the same: "Item k of a list is pair n + k". It is asked of the items 0 to 5 alone,
--- since no call with a full set scores another one. Any two NaNs are the same, as there is one NaN among the floats of the logic
+-- wherever two calls read an item of the same pair, it is the same: "Item k of a list is pair n + k". It is asked of the items 0 to 5
+-- alone, since no call with a full set scores another one. Any two NaNs are the same, as there is one NaN among the floats of the logic
 abbrev pub Agree : Settings → Call → Call → Type 0
 Agree g c d = (j k : ℕ) → j ≤ normalLookahead → k ≤ normalLookahead → c .number + j ≡ d .number + k → itemIn g c j ≡ itemIn g d k
 

@@ -1,7 +1,7 @@
 -- Demand 3, over the detectors that run: "in Standard or Fast mode, lookahead five or more, one measurement per pair of frames, equal
 -- settings and, from the later start on, equal calls, each accepted by both detectors until the states meet: a detector begun afresh at a
--- later frame, with sets of seven or more frames throughout both runs until then, is after ten such calls in Standard mode, five in Fast, in
--- the same state as one that never stopped, first and release numbers apart; so every later decision, score and refusal is the same."
+-- later frame, with sets of seven or more frames throughout both runs until then, is after ten such calls in Standard mode, five in Fast,
+-- in the same state as one that never stopped, first and release numbers apart; so every later decision, score and refusal is the same."
 -- What a history is: `detector`, specs/Histories.antt. The proof: proofs/Demand3.antt.
 use mathlib.Core.Path.{_≡_}
 use mathlib.Core.List.{List, map}
@@ -22,9 +22,9 @@ use Rattle.meeting.specs.Calls.{asRead, OneMeasurement, FullSets}
 abbrev pub callsToMeet : Bool → ℕ
 callsToMeet fast = cond fast 5 10
 
--- The hypotheses. `old` and `new` are the accepted calls of two detectors with "equal settings" g, in their order. The fresh one begins when
--- the old one has accepted d calls; d may be any number, 0 too. What is asked of the calls of both "until the states meet" is asked of the
--- old one's: as the mode reads them, the fresh one's are among these (`same`).
+-- The hypotheses. `old` and `new` are the accepted calls of two detectors with "equal settings" g, in their order. The fresh one begins
+-- when the old one has accepted d calls; d may be any number, 0 too. What is asked of the calls of both "until the states meet" is asked
+-- of the old one's: as the mode reads them, the fresh one's are among these (`same`).
 pub record Restart (g : Settings) (d : ℕ) (old new : List Call) : Type 0 where
   -- "in Standard or Fast mode": every other number than None's is one of these, or refused
   pub mode : isNone g ≡ false
