@@ -43,8 +43,8 @@ c-shows = record {
   Sound = Sound;
   seen = seen;
   begins = λ g p b. fresh-sound g p (b .0, accepted (freshFault (b .0) (p .scores) g) (b .1), b .2);
-  stays = λ p q c r w d. stays-sound p q c w (d .1) (d .2);
-  steps = λ p q c r w d. leaves-state p q c w (d .1) (d .2);
+  stays = λ p q c r w d. stays-sound p q c w (d .1);
+  steps = λ p q c r w d. leaves-state p q c w (d .1);
   tells = λ p q c r w d. ap notNegative (d .0 ∙ ap (λ (a : Answer Verdict). coded (decided a)) (answers p c w)) ∙ told (seen p) c;
   replies = λ p q p′ q′ c d r r′ w w′ h h′ e.
       h .0 ∙ ap (λ (a : Answer Verdict). coded (decided a)) (answers p c w ∙ e ∙ sym (answers p′ d w′)) ∙ sym (h′ .0);
@@ -55,7 +55,7 @@ abbrev pub c-makes : Makes inC
 c-makes = record {
   reply = λ (p : Places) (c : Call). coded (decided (lentStep (p .numbers) (p .scores) c .answer));
   after = placesAfter;
-  allowed = λ p c. (refl, refl, refl);
+  allowed = λ p c. (refl, (refl, refl));
 }
 
 pub c-begins : (ns : List ℕ) (xs : List Float) (g : Settings) → 0 ≡ freshFault ns xs g → inC .Begins g (freshPlaces ns xs g)

@@ -8,8 +8,8 @@ use lib.IntN.{ℤ, pos, negsuc}
 use Rattle.settings.specs.declared.Settings.{Settings}
 use Rattle.state.specs.State.{Call}
 use Rattle.detector.specs.Histories.{Detector}
-use Rattle.lent.specs.Lent.{freshFault, freshNumbers, lentStep, numbersAfter, scoresAfter}
-use Rattle.lent.specs.Histories.{Places}
+use Rattle.lent.specs.Lent.{freshFault, freshNumbers, lentStep}
+use Rattle.lent.specs.Histories.{Places, Leaves}
 use Rattle.brinepulley.specs.Coded.{coded, done, decided}
 
 -- "the refusal number negated": a number below 0 says that a call was refused
@@ -26,7 +26,5 @@ inC = record {
   Begins = λ (g : Settings) (p : Places).
       (before : List ℕ) × (pos 0 ≡ coded (done (freshFault before (p .scores) g))) × (p .numbers ≡ freshNumbers before (p .scores) g);
   Allows = λ (p : Places) (c : Call) (r : ℤ) (q : Places).
-      (r ≡ coded (decided (lentStep (p .numbers) (p .scores) c .answer)))
-      × (q .numbers ≡ numbersAfter (lentStep (p .numbers) (p .scores) c) (p .numbers))
-      × (q .scores ≡ scoresAfter (lentStep (p .numbers) (p .scores) c) (p .scores));
+      (r ≡ coded (decided (lentStep (p .numbers) (p .scores) c .answer))) × Leaves p c q;
 }

@@ -35,7 +35,7 @@ use Rattle.detector.proofs.Histories.{Shows, decided-is}
 use Rattle.detector.proofs.Makes.{Makes, answer-back}
 use Rattle.lent.specs.Places.{offsetPlace, countPlace, settingsLong, numbersLong, scoreLong, scoresLong, isState, frontScore, scoresOf, stateOf, settingNumbers, callNumbers, doubles, placed}
 use Rattle.lent.specs.Lent.{freshFault, freshNumbers, lentStep, numbersAfter, scoresAfter}
-use Rattle.lent.specs.Histories.{Places, byPlaces, numberAt, doubleAt, comparedNumbers, SamePlaces}
+use Rattle.lent.specs.Histories.{Places, Leaves, byPlaces, numberAt, doubleAt, comparedNumbers, SamePlaces}
 use Rattle.lent.proofs.Sizes.{both, state-long}
 use Rattle.lent.proofs.Scores.{scores-long, score-at}
 use Rattle.lent.proofs.Placed.{stepped, carried, fresh-carried}
@@ -99,12 +99,12 @@ module _ (p : Places) (c : Call) (w : Sound p) where
       (λ v e. rw steps (entries-few (seen p) c v (sym (ap (λ (o : Outcome). o .answer) steps) ∙ e)))
 
 -- what a call leaves in the places, whatever it replies
-module _ (p q : Places) (c : Call) (w : Sound p) (n : q .numbers ≡ numbersAfter (lent p c w) (p .numbers)) (x : q .scores ≡ scoresAfter (lent p c w) (p .scores)) where
+module _ (p q : Places) (c : Call) (w : Sound p) (l : Leaves p c q) where
   pub leaves-state : seen q ≡ stepOf (seen p) c .state
-  leaves-state = rw (n, x) (holds p c w)
+  leaves-state = rw (l .0, l .1) (holds p c w)
 
   pub stays-sound : Sound q
-  stays-sound = (rw (n, x) (state-still p c w), rw leaves-state (step-passes (seen p) c (w .1)))
+  stays-sound = (rw (l .0, l .1) (state-still p c w), rw leaves-state (step-passes (seen p) c (w .1)))
 
 pub answers : (p : Places) (c : Call) → Sound p → lentStep (p .numbers) (p .scores) c .answer ≡ stepOf (seen p) c .answer
 answers p c w = ap (λ (o : Outcome). o .answer) (steps p c w)
@@ -124,8 +124,8 @@ places-show = record {
   Sound = Sound;
   seen = seen;
   begins = fresh-sound;
-  stays = λ p q c a w d. stays-sound p q c w (d .1) (d .2);
-  steps = λ p q c a w d. leaves-state p q c w (d .1) (d .2);
+  stays = λ p q c a w d. stays-sound p q c w (d .1);
+  steps = λ p q c a w d. leaves-state p q c w (d .1);
   tells = λ p q c a w d. ap (λ (x : Answer Verdict). not (isRefused x)) (d .0 ∙ answers p c w) ∙ decided-is (seen p) c;
   replies = λ p q p′ q′ c d a b w w′ h h′ e. answer-only a b (h .0 ∙ answers p c w ∙ e ∙ sym (h′ .0 ∙ answers p′ d w′));
 }
@@ -141,7 +141,7 @@ abbrev pub places-make : Makes byPlaces
 places-make = record {
   reply = λ (p : Places) (c : Call). answerBy (lentStep (p .numbers) (p .scores) c .answer);
   after = placesAfter;
-  allowed = λ p c. (answer-back (lentStep (p .numbers) (p .scores) c .answer), refl, refl);
+  allowed = λ p c. (answer-back (lentStep (p .numbers) (p .scores) c .answer), (refl, refl));
 }
 
 abbrev pub freshPlaces : List ℕ → List Float → Settings → Places

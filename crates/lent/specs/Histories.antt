@@ -2,15 +2,14 @@
 -- what the contracts of `fresh` and `step` say (proofs/Contracts.antt: word for word).
 use mathlib.Core.Path.{_≡_}
 use mathlib.Core.List.{List}
-use mathlib.Core.Bool.{not}
 use Prim.Native.Nat.{ℕ, _+_, _*_, _<_}
 use lib.ListN.{getD, set}
 use lib.Ieee.{Float, nan}
 use Rattle.settings.specs.declared.Settings.{Settings}
 use Rattle.state.specs.State.{Call}
 use Rattle.detector.specs.declared.StepAnswer.{StepAnswer}
-use Rattle.detector.specs.Step.{isRefused, stepAnswer}
-use Rattle.detector.specs.Histories.{Detector}
+use Rattle.detector.specs.Step.{stepAnswer}
+use Rattle.detector.specs.Histories.{Detector, byValue}
 use Rattle.lent.specs.Places.{scoreLong, offsetPlace, firstNumberPlace, releasePlace, countPlace}
 use Rattle.lent.specs.Lent.{freshFault, freshNumbers, lentStep, numbersAfter, scoresAfter}
 
@@ -18,18 +17,22 @@ pub record Places : Type 0 where
   pub numbers : List ℕ
   pub scores : List Float
 
+-- what a call leaves in the places, whatever it replies
+abbrev pub Leaves : Places → Call → Places → Type 0
+Leaves p c q =
+    (q .numbers ≡ numbersAfter (lentStep (p .numbers) (p .scores) c) (p .numbers))
+    × (q .scores ≡ scoresAfter (lentStep (p .numbers) (p .scores) c) (p .scores))
+
 -- `before` is what the numbers held when `fresh` was called
 abbrev pub byPlaces : Detector
 byPlaces = record {
   Kept = Places;
   Reply = StepAnswer;
-  accepts = λ (a : StepAnswer). not (isRefused (stepAnswer a));
+  accepts = byValue .accepts;
   Begins = λ (g : Settings) (p : Places).
       (before : List ℕ) × (0 ≡ freshFault before (p .scores) g) × (p .numbers ≡ freshNumbers before (p .scores) g);
   Allows = λ (p : Places) (c : Call) (a : StepAnswer) (q : Places).
-      (stepAnswer a ≡ lentStep (p .numbers) (p .scores) c .answer)
-      × (q .numbers ≡ numbersAfter (lentStep (p .numbers) (p .scores) c) (p .numbers))
-      × (q .scores ≡ scoresAfter (lentStep (p .numbers) (p .scores) c) (p .scores));
+      (stepAnswer a ≡ lentStep (p .numbers) (p .scores) c .answer) × Leaves p c q;
 }
 
 -- ---- what of two pairs of places demand 3 compares

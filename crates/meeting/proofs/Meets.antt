@@ -4,7 +4,7 @@
 use mathlib.Core.Path.{_≡_, refl, sym, _∙_, ap}
 use mathlib.Core.Bool.{Bool, true, false}
 use mathlib.Core.List.{List, [], _∷_, _++_, map, nil≢cons, head-eq-of-cons-eq, tail-eq-of-cons-eq}
-use Prim.Native.Nat.{ℕ, zero, suc, _+_, _-_, _≤_}
+use Prim.Native.Nat.{ℕ, zero, suc, _+_, _≤_}
 use native.Mathlib.Omega.{arith}
 use borrow.Author.Tests.{eqb-true}
 use lib.Dec.{eqb}
@@ -68,17 +68,17 @@ module _ (g : Settings) (x y z : Call) (xs ys zs : List Call) (first : asRead g 
   abbrev newPairs : List Item
   newPairs = scoredThen g (firstItems g z (suc span)) zs
 
-  pairs-meet : InTurn x (xs ++ (y ∷ ys)) → All (λ (c : Call). Agree g c z) (x ∷ xs) → FullSets (x ∷ xs) → fullSet ≤ z .setLength
+  pairs-meet : InTurn x (xs ++ (y ∷ ys)) → All (λ (c : Call). Agree g c z) (x ∷ xs)
       → callsToMeet (isFast g) ≤ length (z ∷ zs)
       → let m = pairsNeeded (isFast g) keeps in take m oldPairs ≡ take m newPairs
   unfolding scoredThen firstItems
-  pairs-meet t agree full size h =
+  pairs-meet t agree h =
       let m = pairsNeeded (isFast g) keeps in
       let past = scoredThen g (firstItems g x (suc span)) xs in
       let front = scoredThen g [] zs in
       let p = turn-parts x xs y ys t in
       let next : z .number ≡ suc (lastCall x xs .number) = ap (λ (c : Call). c .number) (sym first) ∙ p .1 in
-      let five : take span past ≡ firstItems g z span = newest-same g z x xs (p .0) agree full size next in
+      let five : take span past ≡ firstItems g z span = newest-same g z x xs (p .0) agree next in
       let six : take (suc span) (itemAt g y span ∷ past) ≡ take (suc span) (firstItems g z (suc span))
       = rw (same-item g y z span first, five) in
       let long : m ≤ length front + suc span = omega (arith, scored-long g [] zs, enough (isFast g) (length zs) h) in
@@ -101,8 +101,7 @@ module _ (g : Settings) (x y z : Call) (xs ys zs : List Call) (first : asRead g 
       let fault = eqb-true _ _ (begins .0) in
       let turn = in-turn (stepOf (freshView g) x .state) x (xs ++ (y ∷ ys)) (leaves (freshView g) x fault .number) (fine (freshView g) x fault .begun) (begins .1) in
       let before = all-parts (λ (c : Call). Agree g c z) (x ∷ xs) (y ∷ ys) (rw split at agree) .0 in
-      let size = all-parts (λ (c : Call). fullSet ≤ c .setLength) (x ∷ xs) (y ∷ ys) (rw split at full) .0 in
-      let deques : closedDeque g oldPairs ≡ closedDeque g newPairs = same-deque g oldPairs newPairs (pairs-meet turn before size (sizes .0) h) in
+      let deques : closedDeque g oldPairs ≡ closedDeque g newPairs = same-deque g oldPairs newPairs (pairs-meet turn before h) in
       let calls : asRead g (lastCall x (xs ++ (y ∷ ys))) ≡ asRead g (lastCall z zs)
       = ap (asRead g) (last-parts x xs y ys) ∙ same-last g y z ys zs first further in
       rw split (calls-closed g mode ahead x (xs ++ (y ∷ ys)) accepted (rw split at full))

@@ -4,7 +4,7 @@
 use mathlib.Core.Path.{_≡_, refl, sym, _∙_, ap, subst}
 use mathlib.Core.Bool.{true}
 use mathlib.Core.List.{List, [], _∷_, _++_, append-assoc}
-use Prim.Native.Nat.{ℕ, zero, suc, _+_, _-_, _≤_}
+use Prim.Native.Nat.{ℕ, zero, suc, _+_, _≤_}
 use native.Mathlib.Omega.{arith}
 use borrow.Author.Tests.{eqb-true}
 use lib.Dec.{eqb}
@@ -18,7 +18,7 @@ use Rattle.state.proofs.Fine.{fine}
 use Rattle.detector.specs.Step.{stepOf}
 use Rattle.detector.specs.Runs.{allAccepted}
 use Rattle.detector.proofs.Cases.{leaves}
-use Rattle.meeting.specs.Calls.{Agree, All, fullSet, FullSets}
+use Rattle.meeting.specs.Calls.{Agree, All}
 use Rattle.meeting.proofs.ClosedForm.{span, Item, itemAt, firstItems, scoredThen, lastCall}
 use Rattle.meeting.proofs.Closed.{first-long}
 
@@ -90,14 +90,13 @@ module _ (g : Settings) (z : Call) where
   first-lined c (suc k) a h = (omega arith, same-at c k a (omega arith), first-lined c k a (omega arith))
 
   then-lined : (b : Call) (past : List Item) (cs : List Call) → Lined (b .number + suc span) past → InTurn b cs → All (λ (c : Call). Agree g c z) cs
-      → FullSets cs → Lined (lastCall b cs .number + suc span) (scoredThen g past cs)
+      → Lined (lastCall b cs .number + suc span) (scoredThen g past cs)
   unfolding scoredThen
-  then-lined b past [] l t a full = l
-  then-lined b past (c ∷ cs) l t a full =
+  then-lined b past [] l t a = l
+  then-lined b past (c ∷ cs) l t a =
       let e : b .number + suc span ≡ c .number + span = omega (arith, t .0) in
-      let size = full .0 in
       then-lined c (itemAt g c span ∷ past) cs
-      (omega arith, same-at c span (a .0) (omega arith), subst (λ (q : ℕ). Lined q past) e l) (t .1) (a .1) (full .1)
+      (omega arith, same-at c span (a .0) (omega arith), subst (λ (q : ℕ). Lined q past) e l) (t .1) (a .1)
 
   lined-same : (k q : ℕ) (l : List Item) → Lined q l → q ≡ z .number + k → k ≤ length l → k ≤ suc span → take k l ≡ firstItems g z k
   unfolding firstItems
@@ -107,14 +106,12 @@ module _ (g : Settings) (z : Call) where
       let here : i .pair ≡ z .number + k = omega (arith, w .0) in
       rw (lined-same k (i .pair) l (w .2) here (omega arith) (omega arith), ← w .1 k (omega arith) here)
 
-  -- the five pairs that the old detector has scored just before this call's first further one
-  pub newest-same : (x : Call) (xs : List Call) → InTurn x xs → All (λ (c : Call). Agree g c z) (x ∷ xs) → FullSets (x ∷ xs) → fullSet ≤ z .setLength
-      → z .number ≡ suc (lastCall x xs .number)
+  -- the newest five pairs that the calls before this one have scored are its own first five
+  pub newest-same : (x : Call) (xs : List Call) → InTurn x xs → All (λ (c : Call). Agree g c z) (x ∷ xs) → z .number ≡ suc (lastCall x xs .number)
       → take span (scoredThen g (firstItems g x (suc span)) xs) ≡ firstItems g z span
-  newest-same x xs t a full size next =
+  newest-same x xs t a next =
       let long = scored-long g (firstItems g x (suc span)) xs in
       let first = first-long g x (suc span) in
-      let begun = full .0 in
       let e : lastCall x xs .number + suc span ≡ z .number + span = omega arith in
       lined-same span (lastCall x xs .number + suc span) (scoredThen g (firstItems g x (suc span)) xs)
-      (then-lined x (firstItems g x (suc span)) xs (first-lined x (suc span) (a .0) (omega arith)) t (a .1) (full .1)) e (omega arith) (omega arith)
+      (then-lined x (firstItems g x (suc span)) xs (first-lined x (suc span) (a .0) (omega arith)) t (a .1)) e (omega arith) (omega arith)
