@@ -2,7 +2,7 @@
 # GNU make. The archive is for x86-64: on another machine C is compiled by Debian's cross compiler and run under the
 # toolchain's own emulator, which is found from where `rt` is.
 
-VERSION := 0.2.0
+VERSION := 0.3.0
 PREFIX ?= /usr/local
 DESTDIR ?=
 RT ?= rt

@@ -89,11 +89,15 @@ rule6 g distance t = intervalOf g distance (cutOf (isFast g) (importanceThreshol
 abbrev pub rule7 : Settings → List ScenecutResult → List ScenecutResult
 rule7 g l = trimmedTo (normalLookahead + lookaheadOffset g) l
 
--- ---- "Release number"
+-- ---- "Release number"; document 02, L2: "From now on it is one less than document 01 says, but not below 0."
 
--- "With a the first accepted call's number, it starts as a; both are 0 until then.": a last number of 0 says that there was no call
+-- "With a the first accepted call's number": a last number of 0 says that there was no call
 abbrev pub firstOf : View → ℕ → ℕ
 firstOf s n = cond (eqb (s .lastNumber) 0) n (s .firstNumber)
+
+-- "frames k and k + 1" of a set are a pair, and pair n's second frame is frame n: its first is one before, "not below 0"
+abbrev pub leftFrame : ℕ → ℕ
+leftFrame n = n - 1
 
 -- the 7 and the 9 of the next rule
 abbrev pub releaseLength : ℕ
@@ -106,10 +110,14 @@ releaseReach = 9
 abbrev pub releases : Settings → ℕ → Bool
 releases g long = leb releaseLength long && (eqb (lookaheadOffset g) normalLookahead && not (isNone g))
 
--- ".. it is the larger of a and n − 9. Other calls keep it."
+-- "it starts as a; both are 0 until then": ".. one less"
+abbrev pub startRelease : View → ℕ → ℕ
+startRelease s n = cond (eqb (s .lastNumber) 0) (leftFrame n) (s .release)
+
+-- ".. it is the larger of a and n − 9": ".. one less", since "call n − 9 compares frame n − 10 with frame n − 9, so frame n − 10 must
+-- stay". "Other calls keep it."
 abbrev pub releaseOf : View → ℕ → ℕ → ℕ
-releaseOf s long n =
-    cond (releases (s .settings) long) (max (firstOf s n) (n - releaseReach)) (cond (eqb (s .lastNumber) 0) n (s .release))
+releaseOf s long n = cond (releases (s .settings) long) (leftFrame (max (firstOf s n) (n - releaseReach))) (startRelease s n)
 
 -- the state after an accepted call, with the entries and the offset that it leaves; its count is theirs
 abbrev pub nextOf : View → ℕ → ℕ → List ScenecutResult → ℕ → View

@@ -5,7 +5,7 @@ ghost use lib.ListN.{length};
 ghost use Rattle.score.specs.Deque.{content};
 ghost use Rattle.state.specs.State.{view, call};
 ghost use Rattle.state.specs.Refusals.{stepFault};
-ghost use Rattle.detector.specs.Rules.{releaseReach, releases, nextOf};
+ghost use Rattle.detector.specs.Rules.{releases, nextOf};
 ghost use Rattle.detector.specs.Step.{outcome, HandsBack, bareOf, acceptedOf, stepOf};
 ghost use Rattle.detector.specs.Fresh.{freshView, opened, openedOf};
 use score::ScenecutResult;
@@ -22,10 +22,13 @@ pub enum Decision {
     Scored(bool, ScenecutResult),
 }
 
-// The set length from which a call moves the release number, and how far behind its number that lies.
+// The set length from which a call moves the release number, and how many calls behind it lies the first that is still needed.
 const RELEASE_LENGTH: usize = 7;
 
 const RELEASE_REACH: u64 = 9;
+
+// How far a pair's first frame lies behind the pair's number.
+const LEFT_FRAME: u64 = 1;
 
 // What the step answers: the number of a refusal, or a decision.
 pub enum StepAnswer {
@@ -77,14 +80,14 @@ fn larger(a: u64, b: u64) -> u64
     if a <= b { b } else { a }
 }
 
-// The number of the call that lies as far back as any that the deque still needs; 0 where there is none.
-fn reach_back(n: u64) -> u64
-    ensures { λ r. ⌜ r ≡ n - releaseReach ⌝ }
+// So far back from n; 0 where there is nothing so far back.
+fn back(n: u64, by: u64) -> u64
+    ensures { λ r. ⌜ r ≡ n - by ⌝ }
 {
-    if n <= RELEASE_REACH {
+    if n <= by {
         return 0;
     }
-    n - RELEASE_REACH
+    n - by
 }
 
 // Whether a call moves the release number.
@@ -105,11 +108,12 @@ fn next_state(s: State, d: ScoreDeque, o: usize, n: u64, long: usize) -> State
     let mut release = s.release_number;
     if s.last_number == 0 {
         first = n;
-        release = n;
+        release = back(n, LEFT_FRAME);
     }
     if moves_release(g, long) {
-        let back = reach_back(n);
-        release = larger(first, back);
+        let reached = back(n, RELEASE_REACH);
+        let needed = larger(first, reached);
+        release = back(needed, LEFT_FRAME);
     }
     State {
         settings: g,

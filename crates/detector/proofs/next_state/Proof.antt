@@ -7,28 +7,43 @@ use mathlib.Core.Logic.{⊎-elim}
 use borrow.Author.Tests.{ne-eqb}
 use lib.Dec.{eqb}
 use borrow.Author.Needs.{needs}
+use Rattle.detector.specs.Rules.{leftFrame}
 use Rattle.detector.proofs.next_state.Statement.{statement}
 use Rattle.detector.proofs.next_state.Tie as tie
 
 joined : (c : tie.Joined1)
     → (c .if1 .first ≡ cond (eqb (c .before .before .before .args .s .«last_number») 0) (c .before .before .before .args .n) (c .before .before .before .args .s .«first_number»))
-    × (c .if1 .release ≡ cond (eqb (c .before .before .before .args .s .«last_number») 0) (c .before .before .before .args .n) (c .before .before .before .args .s .«release_number»))
-joined c = ⊎-elim (λ w. rw (w .0 .taken) (w .1, w .2)) (λ w. rw (ne-eqb _ _ (w .0 .left)) (w .1, w .2)) (c .if1 .came)
+    × (c .if1 .release ≡ cond (eqb (c .before .before .before .args .s .«last_number») 0) (leftFrame (c .before .before .before .args .n)) (c .before .before .before .args .s .«release_number»))
+joined c =
+    ⊎-elim (λ w. rw (w .0 .taken) (w .2, w .3 ∙ w .1 .ensures)) (λ w. rw (ne-eqb _ _ (w .0 .left)) (w .1, w .2)) (c .if1 .came)
+
+back-requires : tie.Need-back-requires
+back-requires c κs = search needs
 
 moves-release-requires : tie.Need-moves-release-requires
 moves-release-requires c κs = search needs
 
-reach-back-requires : tie.Need-reach-back-requires
-reach-back-requires c κs = search needs
+back-requires-2 : tie.Need-back-requires-2
+back-requires-2 c κs = search needs
 
 larger-requires : tie.Need-larger-requires
 larger-requires c κs = search needs
 
+back-requires-3 : tie.Need-back-requires-3
+back-requires-3 c κs = search needs
+
 returns : tie.Need-returns
 returns c =
-    let t = c .before .before in
+    let t = c .before .before .before in
     let e = joined (t .before .before) in
-    rw (c .larger .ensures, c .before .reach-back .ensures, e .0, sym (t .before .moves-release .ensures) ∙ t .if2 .taken, ← (t .before .before .before .before .before .pre))
+    rw (
+      c .back3 .ensures,
+      c .before .larger .ensures,
+      c .before .before .back2 .ensures,
+      e .0,
+      sym (t .before .moves-release .ensures) ∙ t .if2 .taken,
+      ← (t .before .before .before .before .before .pre),
+    )
 
 returns-2 : tie.Need-returns-2
 returns-2 c =
@@ -38,4 +53,4 @@ returns-2 c =
 pub next-state-spec : {M : Type 1} → statement M
 next-state-spec =
     tie.close
-    (tie.spec moves-release-requires reach-back-requires larger-requires returns returns-2)
+    (tie.spec back-requires moves-release-requires back-requires-2 larger-requires back-requires-3 returns returns-2)
