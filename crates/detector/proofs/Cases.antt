@@ -12,7 +12,7 @@ use Rattle.answer.specs.Answer.{Answer, gives, refused}
 use Rattle.settings.specs.Settings.{lookaheadOffset, isNone}
 use Rattle.state.specs.State.{View, Call}
 use Rattle.state.specs.Refusals.{stepFault}
-use Rattle.detector.specs.Rules.{rule2, rule3}
+use Rattle.detector.specs.Rules.{rule2, rule3, firstOf, releaseOf}
 use Rattle.detector.specs.Step.{Verdict, Outcome, isRefused, progressOf, bareOf, scoredOf, acceptedOf, stepOf}
 
 module _ (s : View) (c : Call) where
@@ -70,13 +70,15 @@ pub record Leaves (s : View) (c : Call) (o : Outcome) : Type 0 where
   pub counted : o .state .count ≡ length (o .state .entries)
   pub number : o .state .lastNumber ≡ c .number
   pub size : o .state .lastLength ≡ c .setLength
+  pub first : o .state .firstNumber ≡ firstOf s (c .number)
+  pub release : o .state .release ≡ releaseOf s (c .setLength) (c .number)
 
 module _ (s : View) (c : Call) where
   pub accepted-leaves : Leaves s c (acceptedOf s c)
   accepted-leaves =
       accepted-cases s c (Leaves s c)
-      (λ cut. record { decided = refl; settings = refl; counted = refl; number = refl; size = refl })
-      (λ l m. record { decided = refl; settings = refl; counted = refl; number = refl; size = refl })
+      (λ cut. record { decided = refl; settings = refl; counted = refl; number = refl; size = refl; first = refl; release = refl })
+      (λ l m. record { decided = refl; settings = refl; counted = refl; number = refl; size = refl; first = refl; release = refl })
 
   pub leaves : stepFault s c ≡ 0 → Leaves s c (stepOf s c)
   leaves e = rw (step-accepted s c e) accepted-leaves

@@ -6,6 +6,7 @@ pub mod Cases
 pub mod Reach
 pub mod Left
 pub mod Account
+pub mod Release
 pub mod Unique
 pub mod Histories
 pub mod Makes

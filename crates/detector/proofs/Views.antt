@@ -2,7 +2,7 @@
 -- does not read is not looked at.
 -- Assumes nothing.
 use mathlib.Core.Path.{_≡_, refl, sym, ap, _∙_}
-use mathlib.Core.Bool.{Bool, true, false, cond}
+use mathlib.Core.Bool.{Bool, true, false, not, cond}
 use Prim.Native.Nat.{ℕ, _≤_, _<_}
 use native.Mathlib.Omega.{arith}
 use mathlib.Core.List.{List}
@@ -14,7 +14,7 @@ use Rattle.settings.specs.Settings.{lookaheadOffset, isNone, isFast}
 use Rattle.score.specs.declared.ScoreDeque.{ScoreDeque}
 use Rattle.score.specs.Deque.{noScore, content}
 use Rattle.state.specs.State.{View, Call, call, view}
-use Rattle.state.specs.Refusals.{stepFault}
+use Rattle.state.specs.Refusals.{readsInter, readsAll, stepFault}
 use Rattle.state.proofs.Fine.{step-same, unread}
 use Rattle.state.specs.declared.State.{State}
 use Rattle.detector.specs.declared.Stepped.{Stepped}
@@ -95,11 +95,20 @@ module _ (s : View) (c : Call) (k : ℕ) where
   pub step-uncounted : stepFault s c ≡ 0 → stepOf recounted c ≡ stepOf s c
   step-uncounted e = step-accepted recounted c (fault-uncounted ∙ e) ∙ accepted-uncounted ∙ sym (step-accepted s c e)
 
--- ---- in Fast mode a list that is not read may be anything
+-- ---- a list that the mode does not read may be anything
 
-pub unread-blind : (s : View) (long n p : ℕ) (ds is ts is′ ts′ : List Float) → isFast (s .settings) ≡ true
-    → stepOf s (call long n p ds is ts) ≡ stepOf s (call long n p ds is′ ts′)
-unfolding stepOf acceptedOf
-unread-blind s long n p ds is ts is′ ts′ e =
-    let same : stepFault s (call long n p ds is ts) ≡ stepFault s (call long n p ds is′ ts′) = unread s _ _ (rw e) refl refl refl refl in
-    rw (same, e)
+module _ (s : View) (c d : Call) (k : c .setLength ≡ d .setLength) (n : c .number ≡ d .number) (p : c .keyframe ≡ d .keyframe) where
+  pub unread-blind : (readsInter (s .settings) ≡ true → c .inter ≡ d .inter)
+      → (readsAll (s .settings) ≡ true → (c .importance ≡ d .importance) × (c .threshold ≡ d .threshold)) → stepOf s c ≡ stepOf s d
+  unfolding stepOf acceptedOf
+  unread-blind inter rest = by (isNone (s .settings)) (isFast (s .settings)) refl refl
+    where
+      same : stepFault s c ≡ stepFault s d
+      same = unread s c d k n p inter rest
+
+      by : (x y : Bool) → isNone (s .settings) ≡ x → isFast (s .settings) ≡ y → stepOf s c ≡ stepOf s d
+      by true y e f = rw (same, e, k, n, p)
+      by false true e f = rw (same, f, k, n, p, inter (ap not e))
+      by false false e f =
+          let all = rest (rw (f, e)) in
+          rw (same, k, n, p, inter (ap not e), all .0, all .1)

@@ -4,7 +4,7 @@ use mathlib.Core.Bool.{Bool, true, false, cond}
 use mathlib.Core.List.{List, [], _∷_, map, nil≢cons, head-eq-of-cons-eq, tail-eq-of-cons-eq}
 use Prim.Native.Nat.{ℕ, _+_, _≤_}
 use Rattle.settings.specs.declared.Settings.{Settings}
-use Rattle.settings.specs.Settings.{normalLookahead, isFast}
+use Rattle.settings.specs.Settings.{isNone, isFast}
 use Rattle.score.specs.declared.Measure.{Measure}
 use Rattle.state.specs.State.{View, Call, call}
 use Rattle.state.specs.Refusals.{stepFault}
@@ -13,19 +13,19 @@ use Rattle.detector.specs.Step.{Outcome, itemIn, stepOf}
 use Rattle.detector.specs.Runs.{compared, stateAfter}
 use Rattle.detector.proofs.Left.{settings-kept}
 use Rattle.detector.proofs.Views.{Alike, alike, unread-blind}
-use Rattle.meeting.specs.Calls.{asRead, Agree, All, OneMeasurement, FullSets}
+use Rattle.meeting.specs.Calls.{asRead, Has, Agree, All, OneMeasurement, FullSets}
 use Rattle.meeting.proofs.Lists.{all-so}
 use Rattle.meeting.proofs.ClosedForm.{span, Item, itemAt, scoredThen, lastCall}
 
 -- ---- what they score
 
-module _ (g : Settings) where
+module _ (g : Settings) (mode : isNone g ≡ false) where
   item-as-read : (c : Call) (k : ℕ) → itemAt g (asRead g c) k ≡ itemAt g c k
   item-as-read c k = by (isFast g) refl
     where
       by : (b : Bool) → isFast g ≡ b → itemAt g (asRead g c) k ≡ itemAt g c k
-      by true e = rw e
-      by false e = rw e
+      by true e = rw (mode, e)
+      by false e = rw (e, mode)
 
   pub same-item : (c d : Call) (k : ℕ) → asRead g c ≡ asRead g d → itemAt g c k ≡ itemAt g d k
   same-item c d k e = sym (item-as-read c k) ∙ ap (λ (x : Call). itemAt g x k) e ∙ item-as-read d k
@@ -39,32 +39,21 @@ module _ (g : Settings) where
       ap (λ (i : Item). scoredThen g (i ∷ past) cs) (same-item c d span (head-eq-of-cons-eq e))
       ∙ same-scored (itemAt g d span ∷ past) cs ds (tail-eq-of-cons-eq e)
 
-  pub same-last : (c d : Call) (cs ds : List Call) → asRead g c ≡ asRead g d → map (asRead g) cs ≡ map (asRead g) ds
-      → asRead g (lastCall c cs) ≡ asRead g (lastCall d ds)
-  same-last c d [] [] e f = e
-  same-last c d [] (x ∷ ds) e f = absurd (nil≢cons f)
-  same-last c d (x ∷ cs) [] e f = absurd (nil≢cons (sym f))
-  same-last c d (x ∷ cs) (y ∷ ds) e f = same-last x y cs ds (head-eq-of-cons-eq f) (tail-eq-of-cons-eq f)
+pub same-last : (g : Settings) (c d : Call) (cs ds : List Call) → asRead g c ≡ asRead g d → map (asRead g) cs ≡ map (asRead g) ds
+    → asRead g (lastCall c cs) ≡ asRead g (lastCall d ds)
+same-last g c d [] [] e f = e
+same-last g c d [] (x ∷ ds) e f = absurd (nil≢cons f)
+same-last g c d (x ∷ cs) [] e f = absurd (nil≢cons (sym f))
+same-last g c d (x ∷ cs) (y ∷ ds) e f = same-last g x y cs ds (head-eq-of-cons-eq f) (tail-eq-of-cons-eq f)
 
--- ---- what a step makes of them
+-- ---- what a step makes of them: it looks at a call as its mode reads it
 
-module _ (s : View) where
-  -- the step looks at a call as its mode reads it
-  step-as-read : (c : Call) → stepOf s (asRead (s .settings) c) ≡ stepOf s c
-  step-as-read c = by (isFast (s .settings)) refl
-    where
-      by : (b : Bool) → isFast (s .settings) ≡ b
-          → stepOf s (call (c .setLength) (c .number) (c .keyframe) (c .inter) (cond b [] (c .importance)) (cond b [] (c .threshold))) ≡ stepOf s c
-      by true e = unread-blind s (c .setLength) (c .number) (c .keyframe) (c .inter) [] [] (c .importance) (c .threshold) e
-      by false e = refl
+module _ (s : View) (c : Call) where
+  step-as-read : stepOf s (asRead (s .settings) c) ≡ stepOf s c
+  step-as-read = unread-blind s (asRead (s .settings) c) c refl refl refl (λ e. rw e) (λ e. (rw e, rw e))
 
-  fault-as-read : (c : Call) → stepFault s (asRead (s .settings) c) ≡ stepFault s c
-  fault-as-read c = by (isFast (s .settings)) refl
-    where
-      by : (b : Bool) → isFast (s .settings) ≡ b
-          → stepFault s (call (c .setLength) (c .number) (c .keyframe) (c .inter) (cond b [] (c .importance)) (cond b [] (c .threshold))) ≡ stepFault s c
-      by true e = unread s _ _ (rw e) refl refl refl refl
-      by false e = refl
+  fault-as-read : stepFault s (asRead (s .settings) c) ≡ stepFault s c
+  fault-as-read = unread s (asRead (s .settings) c) c refl refl refl (λ e. rw e) (λ e. (rw e, rw e))
 
 -- two states that are the same but for the two numbers, and two calls that are the same as read
 pub same-step : (g : Settings) (s t : View) (c d : Call) → s .settings ≡ g → t .settings ≡ g → compared s ≡ compared t → asRead g c ≡ asRead g d
@@ -104,15 +93,16 @@ same-full g (c ∷ cs) (d ∷ ds) e f =
     let size : c .setLength ≡ d .setLength = ap (λ (x : Call). x .setLength) (head-eq-of-cons-eq e) in
     (rw size at (f .0), same-full g cs ds (tail-eq-of-cons-eq e) (f .1))
 
-pub same-agree : (g : Settings) (c y z : Call) → asRead g y ≡ asRead g z → Agree g c y → Agree g c z
-same-agree g c y z e a j k h l n =
+pub same-agree : (g : Settings) (c y z : Call) → isNone g ≡ false → asRead g y ≡ asRead g z → Agree g c y → Agree g c z
+same-agree g c y z mode e a j k h l n =
     let number : y .number ≡ z .number = ap (λ (x : Call). x .number) e in
-    a j k h l (rw number n) ∙ ap (λ (i : Item). i .measure) (same-item g y z k e)
+    let size : y .setLength ≡ z .setLength = ap (λ (x : Call). x .setLength) e in
+    a j k h (l .0, rw size (l .1)) (rw number n) ∙ ap (λ (i : Item). i .measure) (same-item g mode y z k e)
 
 -- one measurement per pair: where every call takes its items from one film, all agree
 module _ (g : Settings) (pairs : ℕ → Measure) where
   abbrev pub OfFilm : Call → Type 0
-  OfFilm c = (k : ℕ) → k ≤ normalLookahead → itemIn g c k ≡ pairs (c .number + k)
+  OfFilm c = (k : ℕ) → Has c k → itemIn g c k ≡ pairs (c .number + k)
 
   pub film-agrees : (cs : List Call) → All OfFilm cs → OneMeasurement g cs
   film-agrees cs f =

@@ -40,3 +40,7 @@ module _ {A : Type 0} where
   pub all-so : (P Q : A → Type 0) → ((x : A) → P x → Q x) → (xs : List A) → All P xs → All Q xs
   all-so P Q f [] a = tt
   all-so P Q f (x ∷ xs) a = (f x (a .0), all-so P Q f xs (a .1))
+
+  pub all-both : (P Q : A → Type 0) (xs : List A) → All P xs → All Q xs → All (λ (x : A). P x × Q x) xs
+  all-both P Q [] a b = tt
+  all-both P Q (x ∷ xs) a b = ((a .0, b .0), all-both P Q xs (a .1) (b .1))

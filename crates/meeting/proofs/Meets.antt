@@ -23,12 +23,12 @@ use Rattle.detector.proofs.Cases.{leaves}
 use Rattle.detector.proofs.Account.{after-parts, accepted-parts, settings-after}
 use Rattle.meeting.specs.Calls.{asRead, Agree, All, OneMeasurement, fullSet, FullSets}
 use Rattle.meeting.specs.Meeting.{callsToMeet, Restart}
-use Rattle.meeting.proofs.Lists.{same-take, same-drop, drop-taken, all-parts, all-so}
+use Rattle.meeting.proofs.Lists.{same-take, same-drop, drop-taken, all-parts, all-so, all-both}
 use Rattle.meeting.proofs.ClosedForm.{span, keeps, Item, itemAt, firstItems, scoredThen, lastCall, closedEntriesOf, closedDeque, stateWith}
 use Rattle.meeting.proofs.Closed.{pairsNeeded, local}
 use Rattle.meeting.proofs.AsRead.{same-item, same-scored, same-last, same-after, same-full, same-agree}
 use Rattle.meeting.proofs.Settle.{calls-closed}
-use Rattle.meeting.proofs.Newest.{scored-parts, scored-front, scored-long, take-behind, InTurn, in-turn, newest-same}
+use Rattle.meeting.proofs.Newest.{scored-parts, scored-front, scored-long, take-behind, InTurn, in-turn, Agreed, agreed, newest-same}
 
 -- ---- the states meet
 
@@ -61,14 +61,16 @@ turn-parts x (c ∷ xs) y ys t =
     ((t .0, r .0), r .1)
 
 -- the old one's calls x, xs, y, ys, and the fresh one's z, zs, which begins as the old one comes to y
-module _ (g : Settings) (x y z : Call) (xs ys zs : List Call) (first : asRead g y ≡ asRead g z) (further : map (asRead g) ys ≡ map (asRead g) zs) where
+module _ (g : Settings) (mode : isNone g ≡ false) (x y z : Call) (xs ys zs : List Call) (first : asRead g y ≡ asRead g z)
+    (further : map (asRead g) ys ≡ map (asRead g) zs)
+  where
   abbrev oldPairs : List Item
   oldPairs = scoredThen g (firstItems g x (suc span)) (xs ++ (y ∷ ys))
 
   abbrev newPairs : List Item
   newPairs = scoredThen g (firstItems g z (suc span)) zs
 
-  pairs-meet : InTurn x (xs ++ (y ∷ ys)) → All (λ (c : Call). Agree g c z) (x ∷ xs)
+  pairs-meet : InTurn x (xs ++ (y ∷ ys)) → All (λ (c : Call). Agreed g c z) (x ∷ xs)
       → callsToMeet (isFast g) ≤ length (z ∷ zs)
       → let m = pairsNeeded (isFast g) keeps in take m oldPairs ≡ take m newPairs
   unfolding scoredThen firstItems
@@ -80,27 +82,27 @@ module _ (g : Settings) (x y z : Call) (xs ys zs : List Call) (first : asRead g 
       let next : z .number ≡ suc (lastCall x xs .number) = ap (λ (c : Call). c .number) (sym first) ∙ p .1 in
       let five : take span past ≡ firstItems g z span = newest-same g z x xs (p .0) agree next in
       let six : take (suc span) (itemAt g y span ∷ past) ≡ take (suc span) (firstItems g z (suc span))
-      = rw (same-item g y z span first, five) in
+      = rw (same-item g mode y z span first, five) in
       let long : m ≤ length front + suc span = omega (arith, scored-long g [] zs, enough (isFast g) (length zs) h) in
       let old : oldPairs ≡ front ++ (itemAt g y span ∷ past)
       = scored-parts g (firstItems g x (suc span)) xs (y ∷ ys)
       ∙ scored-front g (itemAt g y span ∷ past) ys
-      ∙ ap (λ (l : List Item). l ++ (itemAt g y span ∷ past)) (same-scored g [] ys zs further) in
+      ∙ ap (λ (l : List Item). l ++ (itemAt g y span ∷ past)) (same-scored g mode [] ys zs further) in
       let new : newPairs ≡ front ++ firstItems g z (suc span) = scored-front g (firstItems g z (suc span)) zs in
       ap (take m) old ∙ take-behind m (suc span) front (itemAt g y span ∷ past) (firstItems g z (suc span)) long six ∙ sym (ap (take m) new)
 
-  states-meet : isNone g ≡ false → normalLookahead ≤ g .«lookahead_distance»
+  states-meet : normalLookahead ≤ g .«lookahead_distance»
       → (old : List Call) → old ≡ xs ++ (y ∷ ys)
       → allAccepted (freshView g) (x ∷ old) ≡ true → allAccepted (freshView g) (z ∷ zs) ≡ true
-      → All (λ (c : Call). Agree g c z) (x ∷ old) → FullSets (x ∷ old) → FullSets (z ∷ zs) → callsToMeet (isFast g) ≤ length (z ∷ zs)
+      → All (λ (c : Call). Agreed g c z) (x ∷ old) → FullSets (x ∷ old) → FullSets (z ∷ zs) → callsToMeet (isFast g) ≤ length (z ∷ zs)
       → compared (stateAfter (freshView g) (x ∷ old)) ≡ compared (stateAfter (freshView g) (z ∷ zs))
   unfolding allAccepted
-  states-meet mode ahead old split t u agree full sizes h =
+  states-meet ahead old split t u agree full sizes h =
       let accepted = rw split at t in
       let begins = and-both (eqb (stepFault (freshView g) x) 0) _ accepted in
       let fault = eqb-true _ _ (begins .0) in
       let turn = in-turn (stepOf (freshView g) x .state) x (xs ++ (y ∷ ys)) (leaves (freshView g) x fault .number) (fine (freshView g) x fault .begun) (begins .1) in
-      let before = all-parts (λ (c : Call). Agree g c z) (x ∷ xs) (y ∷ ys) (rw split at agree) .0 in
+      let before = all-parts (λ (c : Call). Agreed g c z) (x ∷ xs) (y ∷ ys) (rw split at agree) .0 in
       let deques : closedDeque g oldPairs ≡ closedDeque g newPairs = same-deque g oldPairs newPairs (pairs-meet turn before h) in
       let calls : asRead g (lastCall x (xs ++ (y ∷ ys))) ≡ asRead g (lastCall z zs)
       = ap (asRead g) (last-parts x xs y ys) ∙ same-last g y z ys zs first further in
@@ -125,11 +127,13 @@ first-meet g (suc d) (x ∷ old) (z ∷ zs) mode ahead one full same h t u = by 
         let equal = sym (ap (map (asRead g)) e) ∙ same in
         let split : old ≡ take d old ++ (y ∷ ys) = sym (take-append-drop d old) ∙ ap (λ (l : List Call). take d old ++ l) e in
         let sizes = all-parts (λ (c : Call). fullSet ≤ c .setLength) (x ∷ take d old) (y ∷ ys) (rw split at full) .1 in
-        let agree : All (λ (c : Call). Agree g c z) (x ∷ old)
-        = all-so (λ (c : Call). All (Agree g c) (x ∷ old)) (λ (c : Call). Agree g c z)
-        (λ c a. same-agree g c y z (head-eq-of-cons-eq equal) (all-parts (Agree g c) (x ∷ take d old) (y ∷ ys) (rw split at a) .1 .0)) (x ∷ old) one in
-        states-meet g x y z (take d old) ys zs (head-eq-of-cons-eq equal) (tail-eq-of-cons-eq equal) mode ahead old split t u agree full
-        (same-full g (y ∷ ys) (z ∷ zs) equal sizes) h
+        let again = same-full g (y ∷ ys) (z ∷ zs) equal sizes in
+        let agree : All (λ (c : Call). Agreed g c z) (x ∷ old)
+        = all-so (λ (c : Call). All (Agree g c) (x ∷ old) × (fullSet ≤ c .setLength)) (λ (c : Call). Agreed g c z)
+        (λ c a. agreed g c z (a .1) (again .0)
+        (same-agree g c y z mode (head-eq-of-cons-eq equal) (all-parts (Agree g c) (x ∷ take d old) (y ∷ ys) (rw split at (a .0)) .1 .0)))
+        (x ∷ old) (all-both (λ (c : Call). All (Agree g c) (x ∷ old)) (λ (c : Call). fullSet ≤ c .setLength) (x ∷ old) one full) in
+        states-meet g mode x y z (take d old) ys zs (head-eq-of-cons-eq equal) (tail-eq-of-cons-eq equal) ahead old split t u agree full again h
 
 -- of any accepted calls: they meet after the first of them, and stay so
 pub calls-meet : (g : Settings) (d : ℕ) (old new : List Call) → Restart g d old new

@@ -15,10 +15,10 @@ use Rattle.state.specs.State.{View, Call}
 use Rattle.state.specs.Refusals.{stepFault}
 use Rattle.state.proofs.Tests.{and-both, positive}
 use Rattle.state.proofs.Fine.{fine}
-use Rattle.detector.specs.Step.{stepOf}
+use Rattle.detector.specs.Step.{itemIn, stepOf}
 use Rattle.detector.specs.Runs.{allAccepted}
 use Rattle.detector.proofs.Cases.{leaves}
-use Rattle.meeting.specs.Calls.{Agree, All}
+use Rattle.meeting.specs.Calls.{Agree, All, fullSet}
 use Rattle.meeting.proofs.ClosedForm.{span, Item, itemAt, firstItems, scoredThen, lastCall}
 use Rattle.meeting.proofs.Closed.{first-long}
 
@@ -71,6 +71,14 @@ in-turn s b (c ∷ cs) e h t =
 
 -- ---- the pairs of calls in turn, held to those of one call
 
+-- calls whose first six items are the same wherever they are of one pair
+abbrev pub Agreed : Settings → Call → Call → Type 0
+Agreed g c d = (j k : ℕ) → j ≤ span → k ≤ span → c .number + j ≡ d .number + k → itemIn g c j ≡ itemIn g d k
+
+-- full sets have six items
+pub agreed : (g : Settings) (c d : Call) → fullSet ≤ c .setLength → fullSet ≤ d .setLength → Agree g c d → Agreed g c d
+agreed g c d m n a j k h l = a j k (h, omega arith) (l, omega arith)
+
 module _ (g : Settings) (z : Call) where
   -- a pair that this call has too is the same there
   abbrev Same : Item → Type 0
@@ -81,15 +89,15 @@ module _ (g : Settings) (z : Call) where
   Lined q [] = Unit {0}
   Lined q (i ∷ l) = (suc (i .pair) ≡ q) × Same i × Lined (i .pair) l
 
-  same-at : (c : Call) (j : ℕ) → Agree g c z → j ≤ span → Same (itemAt g c j)
+  same-at : (c : Call) (j : ℕ) → Agreed g c z → j ≤ span → Same (itemAt g c j)
   same-at c j a h k l e = rw (e, a j k h l e)
 
-  first-lined : (c : Call) (k : ℕ) → Agree g c z → k ≤ suc span → Lined (c .number + k) (firstItems g c k)
+  first-lined : (c : Call) (k : ℕ) → Agreed g c z → k ≤ suc span → Lined (c .number + k) (firstItems g c k)
   unfolding firstItems
   first-lined c zero a h = tt
   first-lined c (suc k) a h = (omega arith, same-at c k a (omega arith), first-lined c k a (omega arith))
 
-  then-lined : (b : Call) (past : List Item) (cs : List Call) → Lined (b .number + suc span) past → InTurn b cs → All (λ (c : Call). Agree g c z) cs
+  then-lined : (b : Call) (past : List Item) (cs : List Call) → Lined (b .number + suc span) past → InTurn b cs → All (λ (c : Call). Agreed g c z) cs
       → Lined (lastCall b cs .number + suc span) (scoredThen g past cs)
   unfolding scoredThen
   then-lined b past [] l t a = l
@@ -107,7 +115,7 @@ module _ (g : Settings) (z : Call) where
       rw (lined-same k (i .pair) l (w .2) here (omega arith) (omega arith), ← w .1 k (omega arith) here)
 
   -- the newest five pairs that the calls before this one have scored are its own first five
-  pub newest-same : (x : Call) (xs : List Call) → InTurn x xs → All (λ (c : Call). Agree g c z) (x ∷ xs) → z .number ≡ suc (lastCall x xs .number)
+  pub newest-same : (x : Call) (xs : List Call) → InTurn x xs → All (λ (c : Call). Agreed g c z) (x ∷ xs) → z .number ≡ suc (lastCall x xs .number)
       → take span (scoredThen g (firstItems g x (suc span)) xs) ≡ firstItems g z span
   newest-same x xs t a next =
       let long = scored-long g (firstItems g x (suc span)) xs in

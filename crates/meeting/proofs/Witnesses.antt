@@ -251,11 +251,11 @@ module _ (ns : List ℕ) (xs : List Float) (is : isState ns xs ≡ true) where
   pub in-c-begins : inC .Begins standard (freshPlaces ns xs standard) × inC .Begins fast (freshPlaces ns xs fast)
   in-c-begins = (c-begins ns xs standard (fine .0), c-begins ns xs fast (fine .1))
 
--- the release number has to be left out: of these two in Fast mode it is 1 and 3
+-- the release number has to be left out: of these two in Fast mode it is 0 and 2
 abbrev releaseAfter : List Call → ℕ
 releaseAfter cs = stateAfter (freshView fast) cs .release
 
-pub releases-apart : (releaseAfter (oldAccepted earlyFast oldFast 1) ≡ 1) × (releaseAfter (newAccepted newFast 1) ≡ 3)
+pub releases-apart : (releaseAfter (oldAccepted earlyFast oldFast 1) ≡ 0) × (releaseAfter (newAccepted newFast 1) ≡ 2)
 unfolding
     stateAfter callsFrom table stepOf acceptedOf stepFault stateFault numberFault lengthFault stopFault listsFault settingsFault
     sizeFault depthFault badSide anyOf isScaled fastThreshold answered factorBy scaleOf _orElse_ ofBits ofInt sub mul div lt le eq

@@ -2,21 +2,27 @@
 use mathlib.Core.Path.{_≡_}
 use mathlib.Core.List.{List, [], _∷_}
 use mathlib.Core.Bool.{cond}
-use Prim.Native.Nat.{ℕ, _+_, _≤_}
+use Prim.Native.Nat.{ℕ, suc, _+_, _≤_, _<_}
 use Rattle.settings.specs.declared.Settings.{Settings}
-use Rattle.settings.specs.Settings.{normalLookahead, isFast}
+use Rattle.settings.specs.Settings.{normalLookahead}
 use Rattle.state.specs.State.{Call, call}
+use Rattle.state.specs.Refusals.{readsInter, readsAll}
 use Rattle.detector.specs.Step.{itemIn}
 
--- number, set length, previous keyframe, and the lists that Standard or Fast reads: "Fast reads only inter costs"
+-- number, set length, previous keyframe, and the lists that the mode reads: "Fast reads only inter costs; None reads no list"
 abbrev pub asRead : Settings → Call → Call
 asRead g c =
-    call (c .setLength) (c .number) (c .keyframe) (c .inter) (cond (isFast g) [] (c .importance)) (cond (isFast g) [] (c .threshold))
+    call (c .setLength) (c .number) (c .keyframe) (cond (readsInter g) (c .inter) []) (cond (readsAll g) (c .importance) [])
+    (cond (readsAll g) (c .threshold) [])
 
--- wherever two calls read an item of the same pair, it is the same: "Item k of a list is pair n + k". It is asked of the items 0 to 5
--- alone, since no call with a full set scores another one. Any two NaNs are the same, as there is one NaN among the floats of the logic
+-- a call has item k: "each list has L − 1 items". Of the items behind the sixth nothing is asked: no call with a full set scores one
+abbrev pub Has : Call → ℕ → Type 0
+Has c k = (k ≤ normalLookahead) × (suc k < c .setLength)
+
+-- wherever two calls have an item of the same pair, it is the same: "Item k of a list is pair n + k". Any two NaNs are the same, as there
+-- is one NaN among the floats of the logic
 abbrev pub Agree : Settings → Call → Call → Type 0
-Agree g c d = (j k : ℕ) → j ≤ normalLookahead → k ≤ normalLookahead → c .number + j ≡ d .number + k → itemIn g c j ≡ itemIn g d k
+Agree g c d = (j k : ℕ) → Has c j → Has d k → c .number + j ≡ d .number + k → itemIn g c j ≡ itemIn g d k
 
 -- what is said of every element of a list
 abbrev pub All : {A : Type 0} → (A → Type 0) → List A → Type 0

@@ -41,20 +41,24 @@ pub record Restart (g : Settings) (d : ℕ) (old new : List Call) : Type 0 where
 
 -- The statements, of a detector D that runs. `Alike` says which of its states are the same, "first and release numbers apart".
 module _ (D : Detector) (Alike : D .Kept → D .Kept → Type 0) where
+  -- whatever calls are made to both of two states after that, refused ones among them, they get the same replies and leave such states
+  -- again. This holds of all beginnings of `us` and `vs`, and so after each call
+  abbrev pub SameOnwards : Settings → D .Kept → D .Kept → Type 0
+  SameOnwards g k l =
+      (us vs : List (Made D)) → Follows D k us → Follows D l vs → map (asRead g) (callsIn D us) ≡ map (asRead g) (callsIn D vs)
+      → (repliesIn D us ≡ repliesIn D vs) × Alike (keptAfter D k us) (keptAfter D l vs)
+
   -- 1. "A detector begun afresh at a later frame .. is .. in the same state as one that never stopped."
   abbrev pub Meeting : Type 0
   Meeting =
       (g : Settings) (d : ℕ) (old new : History D g) → Restart g d (acceptedCalls old) (acceptedCalls new)
       → Alike (lastKept old) (lastKept new)
 
-  -- 2. "So every later decision, score and refusal is the same": whatever calls are made to both after that, refused ones among them, they
-  -- get the same replies and leave such states again. This holds of all beginnings of `us` and `vs`, and so after each call.
+  -- 2. "So every later decision, score and refusal is the same."
   abbrev pub StayMet : Type 0
   StayMet =
       (g : Settings) (d : ℕ) (old new : History D g) → Restart g d (acceptedCalls old) (acceptedCalls new)
-      → (us vs : List (Made D)) → Follows D (lastKept old) us → Follows D (lastKept new) vs
-      → map (asRead g) (callsIn D us) ≡ map (asRead g) (callsIn D vs)
-      → (repliesIn D us ≡ repliesIn D vs) × Alike (keptAfter D (lastKept old) us) (keptAfter D (lastKept new) vs)
+      → SameOnwards g (lastKept old) (lastKept new)
 
 -- 3. A fresh detector that is given the old one's accepted calls again, from any of them on, accepts them all, where these sets are full.
 abbrev pub Acceptance : Detector → Type 0

@@ -1,6 +1,6 @@
 -- What a call that no refusal forbids tells a proof: one record with a field for each part of the refusals, unpacked here alone, and
 -- back. Assumes nothing.
-use mathlib.Core.Path.{_≡_, sym, ap}
+use mathlib.Core.Path.{_≡_, refl, sym, ap}
 use mathlib.Core.Bool.{Bool, true, false, not, _&&_, _||_}
 use mathlib.Core.List.{List}
 use Prim.Native.Nat.{ℕ, _-_, _≤_, _<_}
@@ -11,7 +11,7 @@ use lib.Ieee.{Float}
 use borrow.Author.Tests.{ltb-false, leb-false, le-ltb, lt-leb, eqb-true, eqb-false, eq-eqb, ne-eqb, not-true, not-false}
 use Rattle.answer.proofs.Laws.{or-no, or-none, or-given, or-later, passed}
 use Rattle.settings.specs.declared.Settings.{Settings}
-use Rattle.settings.specs.Settings.{setLimit, lookaheadOffset, isNone, settingsFault}
+use Rattle.settings.specs.Settings.{setLimit, lookaheadOffset, isNone, isFast, settingsFault}
 use Rattle.state.specs.State.{View, Call}
 use Rattle.state.specs.Refusals.{noNumber, numberLimit, numberTooLarge, keyframeAhead, outOfTurn, setTooLong, setGrows, stops, readsInter, readsAll, wrongLength, holdsForbidden, badList, stateFault, numberFault, lengthFault, stopFault, listsFault, stepFault}
 use Rattle.state.proofs.Tests.{and-right, not-both, not-eqb}
@@ -142,9 +142,17 @@ pub settings-refused : (s : View) (c : Call) → (settingsFault (s .settings) �
 unfolding stepFault
 settings-refused s c h = sym (or-given 11 (stateFault s) _ (sym (settings-unfit s h)) (λ z. omega arith))
 
--- the list of a mode that does not read it may be anything
-pub unread : (s : View) (c d : Call) → readsAll (s .settings) ≡ false
-    → c .setLength ≡ d .setLength → c .number ≡ d .number → c .keyframe ≡ d .keyframe → c .inter ≡ d .inter
-    → stepFault s c ≡ stepFault s d
-unfolding stepFault listsFault
-unread s c d e k n p i = rw (e, k, n, p, i)
+-- a list that the mode does not read may be anything
+module _ (s : View) (c d : Call) (k : c .setLength ≡ d .setLength) (n : c .number ≡ d .number) (p : c .keyframe ≡ d .keyframe) where
+  pub unread : (readsInter (s .settings) ≡ true → c .inter ≡ d .inter)
+      → (readsAll (s .settings) ≡ true → (c .importance ≡ d .importance) × (c .threshold ≡ d .threshold)) → stepFault s c ≡ stepFault s d
+  unfolding stepFault listsFault
+  unread inter rest = by (isNone (s .settings)) (isFast (s .settings)) refl refl
+    where
+      by : (x y : Bool) → isNone (s .settings) ≡ x → isFast (s .settings) ≡ y → stepFault s c ≡ stepFault s d
+      by true true e f = rw (e, f, k, n, p)
+      by true false e f = rw (e, f, k, n, p)
+      by false true e f = rw (e, f, k, n, p, inter (ap not e))
+      by false false e f =
+          let all = rest (rw (f, e)) in
+          rw (k, n, p, inter (ap not e), all .0, all .1)
