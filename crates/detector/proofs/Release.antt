@@ -1,15 +1,14 @@
 -- The release number of a run, by the number of its first call and by how many of its calls move it: all calls above it are the run's last
 -- ten that move it and those behind them, or the whole run.
 -- Assumes nothing.
-use mathlib.Core.Path.{_≡_, refl, sym, _∙_, ap}
-use mathlib.Core.Bool.{Bool, true, false, not, _&&_, cond, true≢false}
-use mathlib.Core.List.{List, [], _∷_, _++_}
-use Prim.Native.Nat.{ℕ, suc, _+_, _-_, _≤_, max}
+use mathlib.Core.Path.{_≡_, refl, sym, _∙_}
+use mathlib.Core.Bool.{Bool, true, false, cond, true≢false}
+use mathlib.Core.List.{List, [], _∷_}
+use Prim.Native.Nat.{ℕ, suc, _+_, _-_, _≤_, _<_}
 use native.Mathlib.Omega.{arith}
-use borrow.Author.Tests.{eqb-true, ne-eqb, le-leb, leb-true}
+use borrow.Author.Tests.{eqb-true, eqb-false, ne-eqb, le-leb, leb-true}
 use lib.Dec.{eqb, leb}
 use Rattle.settings.specs.declared.Settings.{Settings}
-use Rattle.settings.specs.Settings.{normalLookahead, lookaheadOffset, isNone}
 use Rattle.state.specs.State.{View, Call}
 use Rattle.state.specs.Refusals.{stepFault}
 use Rattle.state.proofs.Tests.{and-both, positive}
@@ -111,3 +110,51 @@ numbered g c cs t =
     let k : 0 + moves g c + moving g cs ≡ moves g c + moving g cs = omega arith in
     rw (← k)
     (then-numbered g (c .number) (0 + moves g c) (stepOf (freshView g) c .state) cs (first-call g c (freshView g) refl (eqb-true _ _ (u .0)) refl) (u .1))
+
+-- ---- what is known of every state that calls reach from a fresh detector
+
+pub record Known (g : Settings) (s : View) : Type 0 where
+  pub settings : s .settings ≡ g
+  pub none : s .lastNumber ≡ 0 → s .release ≡ 0
+  pub some : (s .lastNumber ≡ 0 → ⊥) → (a : ℕ) × (m : ℕ) × Numbered g a m s
+
+pub fresh-known : (g : Settings) → Known g (freshView g)
+fresh-known g = record { settings = refl; none = λ z. refl; some = λ h. absurd (h refl) }
+
+numbered-known : (g : Settings) (a m : ℕ) (s : View) → Numbered g a m s → Known g s
+numbered-known g a m s n = record { settings = n .settings; none = λ z. absurd (n .begun z); some = λ h. (a, m, n) }
+
+-- each call is numbered above the release number before it, and does not lower it
+module _ (g : Settings) (s : View) (c : Call) (k : Known g s) (e : stepFault s c ≡ 0) where
+  abbrev Goes : Type 0
+  Goes = Known g (stepOf s c .state) × (s .release < c .number) × (s .release ≤ stepOf s c .state .release)
+
+  pub known-step : Goes
+  known-step = by (eqb (s .lastNumber) 0) refl
+    where
+      n : 0 < c .number
+      n = positive (c .number) (fine s c e .begun)
+
+      by : (b : Bool) → eqb (s .lastNumber) 0 ≡ b → Goes
+      by true t =
+          let z = eqb-true _ _ t in
+          let now = first-call g c s (k .settings) e z in
+          (numbered-known g _ _ _ now, omega (arith, n, k .none z), omega (arith, k .none z))
+      by false t =
+          let h = eqb-false _ _ t in
+          let was = k .some h in
+          let now = further g c s (k .settings) e (was .0) (was .1) (was .2) in (
+            numbered-known g _ _ _ now,
+            omega (arith, n, fine s c e .inTurn h, was .2 .within, was .2 .above),
+            omega (arith, was .2 .above, now .above),
+          )
+
+pub known-after : (g : Settings) (s : View) (cs : List Call) → Known g s → allAccepted s cs ≡ true
+    → Known g (stateAfter s cs) × (s .release ≤ stateAfter s cs .release)
+unfolding allAccepted stateAfter
+known-after g s [] k t = (k, omega arith)
+known-after g s (c ∷ cs) k t =
+    let u = and-both (eqb (stepFault s c) 0) _ t in
+    let w = known-step g s c k (eqb-true _ _ (u .0)) in
+    let rest = known-after g (stepOf s c .state) cs (w .0) (u .1) in
+    (rest .0, omega (arith, w .2, rest .1))

@@ -5,15 +5,13 @@ use mathlib.Core.Path.{_≡_, refl, sym, ap, _∙_}
 use mathlib.Core.Bool.{Bool, true, false, not, cond}
 use Prim.Native.Nat.{ℕ, _≤_, _<_}
 use native.Mathlib.Omega.{arith}
-use mathlib.Core.List.{List}
 use lib.Dec.{eqb, leb}
-use lib.Ieee.{Float}
 use lib.ListN.{length, getD}
 use lib.Seq.{ext-getD, getD-take, length-take-le}
 use Rattle.settings.specs.Settings.{lookaheadOffset, isNone, isFast}
 use Rattle.score.specs.declared.ScoreDeque.{ScoreDeque}
 use Rattle.score.specs.Deque.{noScore, content}
-use Rattle.state.specs.State.{View, Call, call, view}
+use Rattle.state.specs.State.{View, Call, view}
 use Rattle.state.specs.Refusals.{readsInter, readsAll, stepFault}
 use Rattle.state.proofs.Fine.{step-same, unread}
 use Rattle.state.specs.declared.State.{State}

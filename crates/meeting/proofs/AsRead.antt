@@ -1,12 +1,12 @@
 -- Calls that are equal as their mode reads them: what they score, and what a step makes of them. Assumes nothing.
 use mathlib.Core.Path.{_≡_, refl, sym, _∙_, ap}
-use mathlib.Core.Bool.{Bool, true, false, cond}
+use mathlib.Core.Bool.{Bool, true, false}
 use mathlib.Core.List.{List, [], _∷_, map, nil≢cons, head-eq-of-cons-eq, tail-eq-of-cons-eq}
-use Prim.Native.Nat.{ℕ, _+_, _≤_}
+use Prim.Native.Nat.{ℕ, _+_}
 use Rattle.settings.specs.declared.Settings.{Settings}
 use Rattle.settings.specs.Settings.{isNone, isFast}
 use Rattle.score.specs.declared.Measure.{Measure}
-use Rattle.state.specs.State.{View, Call, call}
+use Rattle.state.specs.State.{View, Call}
 use Rattle.state.specs.Refusals.{stepFault}
 use Rattle.state.proofs.Fine.{unread}
 use Rattle.detector.specs.Step.{Outcome, itemIn, stepOf}

@@ -1,100 +1,58 @@
 -- Demand 3, of the three detectors that run: the state by value, the lent places, and the functions for C. Each keeps to the definitions,
 -- so a history leaves what its accepted calls leave, and accepted calls meet (Meets.antt). The statements stand in specs/Meeting.antt.
 -- Assumes nothing.
-use mathlib.Core.Path.{_≡_, refl, sym, _∙_, ap}
+use mathlib.Core.Path.{_≡_, sym, _∙_, ap}
 use mathlib.Core.Bool.{true, false}
-use mathlib.Core.List.{List, [], _∷_, _++_, map, nil≢cons, head-eq-of-cons-eq, tail-eq-of-cons-eq}
-use Prim.Native.Nat.{ℕ}
-use lib.ListN.{take, drop, take-append-drop}
+use mathlib.Core.List.{List}
+use Prim.Native.Nat.{ℕ, _≤_}
+use native.Mathlib.Omega.{arith}
+use lib.ListN.{drop}
 use Rattle.settings.specs.declared.Settings.{Settings}
 use Rattle.state.specs.State.{View, Call, view}
 use Rattle.detector.specs.declared.Stepped.{Stepped}
 use Rattle.detector.specs.Fresh.{freshView}
 use Rattle.detector.specs.Step.{isRefused, stepAnswer, outcome}
 use Rattle.detector.specs.Runs.{stateAfter, allAccepted, compared, runOf}
-use Rattle.detector.specs.Histories.{Detector, Made, Follows, keptAfter, callsIn, acceptedIn, repliesIn, History, byValue}
-use Rattle.detector.proofs.Left.{settings-kept}
-use Rattle.detector.proofs.Reach.{fresh-passes}
-use Rattle.detector.proofs.Account.{accepted-parts, settings-after, code-after}
-use Rattle.detector.proofs.Histories.{Shows, sound-after, history-leaves, value-shows}
+use Rattle.detector.specs.Histories.{Detector, keptAfter, acceptedIn, History, byValue}
+use Rattle.detector.proofs.Account.{settings-after, code-after}
+use Rattle.detector.proofs.Histories.{Shows, sound-after, value-shows}
 use Rattle.lent.specs.Histories.{byPlaces, SamePlaces}
 use Rattle.lent.proofs.Histories.{places-show, same-places}
 use Rattle.brinepulley.specs.Histories.{inC}
 use Rattle.brinepulley.proofs.Histories.{c-shows}
-use Rattle.meeting.specs.Calls.{asRead}
-use Rattle.meeting.specs.Meeting.{Restart, Acceptance, Demand3, SameState, Proved}
-use Rattle.meeting.proofs.AsRead.{same-step}
+use Rattle.meeting.specs.Calls.{fullSet}
+use Rattle.meeting.specs.Meeting.{Restart, Demand3, SameState, Proved}
+use Rattle.meeting.proofs.Lists.{all-so}
 use Rattle.meeting.proofs.Meets.{calls-meet}
-use Rattle.meeting.proofs.Takes.{Behind, takes}
+use Rattle.meeting.proofs.Onwards.{left, sound, stay, Met, met-step}
+use Rattle.meeting.proofs.Takes.{GoesOn, takes-behind}
 
 -- ---- of any detector that runs
 
 module _ (D : Detector) (S : Shows D) where
-  -- a history leaves what its accepted calls leave of a fresh detector
-  left : (g : Settings) (h : History D g)
-      → (S .seen (keptAfter D (h .begun) (h .made)) ≡ stateAfter (freshView g) (acceptedIn D (h .made)))
-      × (allAccepted (freshView g) (acceptedIn D (h .made)) ≡ true)
-  left g h =
-      let b = S .begins g (h .begun) (h .fresh) in
-      rw (b .1) at (history-leaves D S (h .begun) (h .made) (b .0) (h .follows))
-
-  sound : (g : Settings) (h : History D g) → S .Sound (keptAfter D (h .begun) (h .made))
-  sound g h = sound-after D S (h .begun) (h .made) (S .begins g (h .begun) (h .fresh) .0) (h .follows)
-
-  settled : (g : Settings) (h : History D g) → S .seen (keptAfter D (h .begun) (h .made)) .settings ≡ g
-  settled g h = ap (λ (s : View). s .settings) (left g h .0) ∙ settings-after (freshView g) (acceptedIn D (h .made))
-
   -- the states meet
   met : (g : Settings) (d : ℕ) (old new : History D g) → Restart g d (acceptedIn D (old .made)) (acceptedIn D (new .made))
-      → compared (S .seen (keptAfter D (old .begun) (old .made))) ≡ compared (S .seen (keptAfter D (new .begun) (new .made)))
+      → Met g (S .seen (keptAfter D (old .begun) (old .made))) (S .seen (keptAfter D (new .begun) (new .made)))
   met g d old new r =
-      ap compared (left g old .0)
-      ∙ calls-meet g d (acceptedIn D (old .made)) (acceptedIn D (new .made)) r (left g old .1) (left g new .1)
-      ∙ sym (ap compared (left g new .0))
-
-  -- and every later reply is the same
-  stay : (g : Settings) (k l : D .Kept) (us vs : List (Made D)) → S .Sound k → S .Sound l → S .seen k .settings ≡ g → S .seen l .settings ≡ g
-      → compared (S .seen k) ≡ compared (S .seen l) → Follows D k us → Follows D l vs → map (asRead g) (callsIn D us) ≡ map (asRead g) (callsIn D vs)
-      → (repliesIn D us ≡ repliesIn D vs) × (compared (S .seen (keptAfter D k us)) ≡ compared (S .seen (keptAfter D l vs)))
-  stay g k l [] [] p q x y e f h same = (refl, e)
-  stay g k l [] (v ∷ vs) p q x y e f h same = absurd (nil≢cons same)
-  stay g k l (u ∷ us) [] p q x y e f h same = absurd (nil≢cons (sym same))
-  stay g k l (u ∷ us) (v ∷ vs) p q x y e f h same =
-      let both = same-step g (S .seen k) (S .seen l) (u .call) (v .call) x y e (head-eq-of-cons-eq same) in
-      let one = S .steps k (u .after) (u .call) (u .reply) p (f .0) in
-      let two = S .steps l (v .after) (v .call) (v .reply) q (h .0) in
-      let reply = S .replies k (u .after) l (v .after) (u .call) (v .call) (u .reply) (v .reply) p q (f .0) (h .0) (both .0) in
-      let rest = stay g (u .after) (v .after) us vs (S .stays k (u .after) (u .call) (u .reply) p (f .0)) (S .stays l (v .after) (v .call) (v .reply) q (h .0))
-      (ap (λ (s : View). s .settings) one ∙ settings-kept (S .seen k) (u .call) ∙ x)
-      (ap (λ (s : View). s .settings) two ∙ settings-kept (S .seen l) (v .call) ∙ y)
-      (ap compared one ∙ both .1 ∙ sym (ap compared two)) (f .1) (h .1) (tail-eq-of-cons-eq same) in
-      (rw (reply, rest .0), rest .1)
-
-  -- the fresh one accepts the old one's calls
-  accepts-all : Acceptance D
-  accepts-all g d old new full same =
-      let b = S .begins g (new .begun) (new .fresh) in
-      let cs = acceptedIn D (old .made) in
-      let split : take d cs ++ drop d cs ≡ cs = take-append-drop d cs in
-      let parts = accepted-parts (freshView g) (take d cs) (drop d cs) (rw split (left g old .1)) in
-      let behind : Behind g (stateAfter (freshView g) (take d cs)) (S .seen (new .begun)) = rw (b .1) (record {
-        settings = settings-after (freshView g) (take d cs);
-        also = refl;
-        passes = fresh-passes g (b .2);
-        number = λ h. absurd (h refl);
-        size = λ h. absurd (h refl);
-      }) in
-      takes D S g (stateAfter (freshView g) (take d cs)) (new .begun) (drop d cs) (new .made) behind (parts .1) full (b .0) (new .follows) same
+      let x = left D S g old in
+      let y = left D S g new in
+      record {
+        one = ap (λ (s : View). s .settings) (x .0) ∙ settings-after (freshView g) (acceptedIn D (old .made));
+        other = ap (λ (s : View). s .settings) (y .0) ∙ settings-after (freshView g) (acceptedIn D (new .made));
+        same = ap compared (x .0) ∙ calls-meet g d (acceptedIn D (old .made)) (acceptedIn D (new .made)) r (x .1) (y .1) ∙ sym (ap compared (y .0));
+      }
 
   -- all three, where states that show the same but for the two numbers are alike
   demand3 : (Alike : D .Kept → D .Kept → Type 0)
       → ((k l : D .Kept) → S .Sound k → S .Sound l → compared (S .seen k) ≡ compared (S .seen l) → Alike k l) → Demand3 D Alike
   demand3 Alike alike = record {
-    meeting = λ g d old new r. alike _ _ (sound g old) (sound g new) (met g d old new r);
+    meeting = λ g d old new r. alike _ _ (sound D S g old) (sound D S g new) (met g d old new r .same);
     stayMet = λ g d old new r us vs f h same.
-        let w = stay g _ _ us vs (sound g old) (sound g new) (settled g old) (settled g new) (met g d old new r) f h same in
-        (w .0, alike _ _ (sound-after D S _ us (sound g old) f) (sound-after D S _ vs (sound g new) h) (w .1));
-    acceptance = accepts-all;
+        let w = stay D S g (Met g) (met-step g) _ _ us vs (sound D S g old) (sound D S g new) (met g d old new r) f h same in
+        (w .0, alike _ _ (sound-after D S _ us (sound D S g old) f) (sound-after D S _ vs (sound D S g new) h) (w .1 .same));
+    acceptance = λ g d old new full same.
+        takes-behind D S g (acceptedIn D (old .made)) d new (left D S g old .1)
+        (all-so (λ (c : Call). fullSet ≤ c .setLength) (GoesOn g) (λ c h one none. omega arith) (drop d (acceptedIn D (old .made))) full) same;
   }
 
 -- ---- the detector whose state is handed on by value

@@ -4,7 +4,11 @@ pub mod Closed
 pub mod AsRead
 pub mod Settle
 pub mod Newest
+pub mod Onwards
 pub mod Takes
 pub mod Meets
+pub mod Moving
+pub mod Replays
 pub mod Demand3
+pub mod Replay
 pub mod Witnesses

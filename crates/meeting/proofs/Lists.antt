@@ -44,3 +44,16 @@ module _ {A : Type 0} where
   pub all-both : (P Q : A → Type 0) (xs : List A) → All P xs → All Q xs → All (λ (x : A). P x × Q x) xs
   all-both P Q [] a b = tt
   all-both P Q (x ∷ xs) a b = ((a .0, b .0), all-both P Q xs (a .1) (b .1))
+
+  pub all-take : (P : A → Type 0) (n : ℕ) (xs : List A) → All P xs → All P (take n xs)
+  all-take P zero xs a = tt
+  all-take P (suc n) [] a = tt
+  all-take P (suc n) (x ∷ xs) a = (a .0, all-take P n xs (a .1))
+
+  pub all-join : (P : A → Type 0) (xs ys : List A) → All P xs → All P ys → All P (xs ++ ys)
+  all-join P [] ys a b = b
+  all-join P (x ∷ xs) ys a b = (a .0, all-join P xs ys (a .1) b)
+
+  pub all-any : (P : A → Type 0) → ((x : A) → P x) → (xs : List A) → All P xs
+  all-any P f [] = tt
+  all-any P f (x ∷ xs) = (f x, all-any P f xs)

@@ -64,52 +64,52 @@ turn-parts x (c ∷ xs) y ys t =
 module _ (g : Settings) (mode : isNone g ≡ false) (x y z : Call) (xs ys zs : List Call) (first : asRead g y ≡ asRead g z)
     (further : map (asRead g) ys ≡ map (asRead g) zs)
   where
-  abbrev oldPairs : List Item
-  oldPairs = scoredThen g (firstItems g x (suc span)) (xs ++ (y ∷ ys))
+    abbrev oldPairs : List Item
+    oldPairs = scoredThen g (firstItems g x (suc span)) (xs ++ (y ∷ ys))
 
-  abbrev newPairs : List Item
-  newPairs = scoredThen g (firstItems g z (suc span)) zs
+    abbrev newPairs : List Item
+    newPairs = scoredThen g (firstItems g z (suc span)) zs
 
-  pairs-meet : InTurn x (xs ++ (y ∷ ys)) → All (λ (c : Call). Agreed g c z) (x ∷ xs)
-      → callsToMeet (isFast g) ≤ length (z ∷ zs)
-      → let m = pairsNeeded (isFast g) keeps in take m oldPairs ≡ take m newPairs
-  unfolding scoredThen firstItems
-  pairs-meet t agree h =
-      let m = pairsNeeded (isFast g) keeps in
-      let past = scoredThen g (firstItems g x (suc span)) xs in
-      let front = scoredThen g [] zs in
-      let p = turn-parts x xs y ys t in
-      let next : z .number ≡ suc (lastCall x xs .number) = ap (λ (c : Call). c .number) (sym first) ∙ p .1 in
-      let five : take span past ≡ firstItems g z span = newest-same g z x xs (p .0) agree next in
-      let six : take (suc span) (itemAt g y span ∷ past) ≡ take (suc span) (firstItems g z (suc span))
-      = rw (same-item g mode y z span first, five) in
-      let long : m ≤ length front + suc span = omega (arith, scored-long g [] zs, enough (isFast g) (length zs) h) in
-      let old : oldPairs ≡ front ++ (itemAt g y span ∷ past)
-      = scored-parts g (firstItems g x (suc span)) xs (y ∷ ys)
-      ∙ scored-front g (itemAt g y span ∷ past) ys
-      ∙ ap (λ (l : List Item). l ++ (itemAt g y span ∷ past)) (same-scored g mode [] ys zs further) in
-      let new : newPairs ≡ front ++ firstItems g z (suc span) = scored-front g (firstItems g z (suc span)) zs in
-      ap (take m) old ∙ take-behind m (suc span) front (itemAt g y span ∷ past) (firstItems g z (suc span)) long six ∙ sym (ap (take m) new)
+    pairs-meet : InTurn x (xs ++ (y ∷ ys)) → All (λ (c : Call). Agreed g c z) (x ∷ xs)
+        → callsToMeet (isFast g) ≤ length (z ∷ zs)
+        → let m = pairsNeeded (isFast g) keeps in take m oldPairs ≡ take m newPairs
+    unfolding scoredThen firstItems
+    pairs-meet t agree h =
+        let m = pairsNeeded (isFast g) keeps in
+        let past = scoredThen g (firstItems g x (suc span)) xs in
+        let front = scoredThen g [] zs in
+        let p = turn-parts x xs y ys t in
+        let next : z .number ≡ suc (lastCall x xs .number) = ap (λ (c : Call). c .number) (sym first) ∙ p .1 in
+        let five : take span past ≡ firstItems g z span = newest-same g z x xs (p .0) agree next in
+        let six : take (suc span) (itemAt g y span ∷ past) ≡ take (suc span) (firstItems g z (suc span))
+        = rw (same-item g mode y z span first, five) in
+        let long : m ≤ length front + suc span = omega (arith, scored-long g [] zs, enough (isFast g) (length zs) h) in
+        let old : oldPairs ≡ front ++ (itemAt g y span ∷ past)
+        = scored-parts g (firstItems g x (suc span)) xs (y ∷ ys)
+        ∙ scored-front g (itemAt g y span ∷ past) ys
+        ∙ ap (λ (l : List Item). l ++ (itemAt g y span ∷ past)) (same-scored g mode [] ys zs further) in
+        let new : newPairs ≡ front ++ firstItems g z (suc span) = scored-front g (firstItems g z (suc span)) zs in
+        ap (take m) old ∙ take-behind m (suc span) front (itemAt g y span ∷ past) (firstItems g z (suc span)) long six ∙ sym (ap (take m) new)
 
-  states-meet : normalLookahead ≤ g .«lookahead_distance»
-      → (old : List Call) → old ≡ xs ++ (y ∷ ys)
-      → allAccepted (freshView g) (x ∷ old) ≡ true → allAccepted (freshView g) (z ∷ zs) ≡ true
-      → All (λ (c : Call). Agreed g c z) (x ∷ old) → FullSets (x ∷ old) → FullSets (z ∷ zs) → callsToMeet (isFast g) ≤ length (z ∷ zs)
-      → compared (stateAfter (freshView g) (x ∷ old)) ≡ compared (stateAfter (freshView g) (z ∷ zs))
-  unfolding allAccepted
-  states-meet ahead old split t u agree full sizes h =
-      let accepted = rw split at t in
-      let begins = and-both (eqb (stepFault (freshView g) x) 0) _ accepted in
-      let fault = eqb-true _ _ (begins .0) in
-      let turn = in-turn (stepOf (freshView g) x .state) x (xs ++ (y ∷ ys)) (leaves (freshView g) x fault .number) (fine (freshView g) x fault .begun) (begins .1) in
-      let before = all-parts (λ (c : Call). Agreed g c z) (x ∷ xs) (y ∷ ys) (rw split at agree) .0 in
-      let deques : closedDeque g oldPairs ≡ closedDeque g newPairs = same-deque g oldPairs newPairs (pairs-meet turn before h) in
-      let calls : asRead g (lastCall x (xs ++ (y ∷ ys))) ≡ asRead g (lastCall z zs)
-      = ap (asRead g) (last-parts x xs y ys) ∙ same-last g y z ys zs first further in
-      rw split (calls-closed g mode ahead x (xs ++ (y ∷ ys)) accepted (rw split at full))
-      ∙ ap (stateWith g (lastCall x (xs ++ (y ∷ ys)))) deques
-      ∙ ap (λ (c : Call). stateWith g c (closedDeque g newPairs)) calls
-      ∙ sym (calls-closed g mode ahead z zs u sizes)
+    states-meet : normalLookahead ≤ g .«lookahead_distance»
+        → (old : List Call) → old ≡ xs ++ (y ∷ ys)
+        → allAccepted (freshView g) (x ∷ old) ≡ true → allAccepted (freshView g) (z ∷ zs) ≡ true
+        → All (λ (c : Call). Agreed g c z) (x ∷ old) → FullSets (x ∷ old) → FullSets (z ∷ zs) → callsToMeet (isFast g) ≤ length (z ∷ zs)
+        → compared (stateAfter (freshView g) (x ∷ old)) ≡ compared (stateAfter (freshView g) (z ∷ zs))
+    unfolding allAccepted
+    states-meet ahead old split t u agree full sizes h =
+        let accepted = rw split at t in
+        let begins = and-both (eqb (stepFault (freshView g) x) 0) _ accepted in
+        let fault = eqb-true _ _ (begins .0) in
+        let turn = in-turn (stepOf (freshView g) x .state) x (xs ++ (y ∷ ys)) (leaves (freshView g) x fault .number) (fine (freshView g) x fault .begun) (begins .1) in
+        let before = all-parts (λ (c : Call). Agreed g c z) (x ∷ xs) (y ∷ ys) (rw split at agree) .0 in
+        let deques : closedDeque g oldPairs ≡ closedDeque g newPairs = same-deque g oldPairs newPairs (pairs-meet turn before h) in
+        let calls : asRead g (lastCall x (xs ++ (y ∷ ys))) ≡ asRead g (lastCall z zs)
+        = ap (asRead g) (last-parts x xs y ys) ∙ same-last g y z ys zs first further in
+        rw split (calls-closed g mode ahead x (xs ++ (y ∷ ys)) accepted (rw split at full))
+        ∙ ap (stateWith g (lastCall x (xs ++ (y ∷ ys)))) deques
+        ∙ ap (λ (c : Call). stateWith g c (closedDeque g newPairs)) calls
+        ∙ sym (calls-closed g mode ahead z zs u sizes)
 
 -- of calls that are full, each pair measured once, and no more than are needed
 first-meet : (g : Settings) (d : ℕ) (old new : List Call) → isNone g ≡ false → normalLookahead ≤ g .«lookahead_distance»
