@@ -8,7 +8,9 @@ pub mod Onwards
 pub mod Takes
 pub mod Meets
 pub mod Moving
-pub mod Replays
+pub mod Again
+pub mod Level
 pub mod Demand3
 pub mod Replay
 pub mod Witnesses
+pub mod ReplayWitness

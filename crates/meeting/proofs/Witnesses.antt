@@ -44,56 +44,60 @@ use Rattle.meeting.proofs.Demand3.{proved}
 
 -- ---- a film, every pair alike but two, and calls of seven frames over it
 
-abbrev whole : ℕ → Float
+abbrev pub whole : ℕ → Float
 whole n = ofInt binary64 (pos n)
 
 -- inter costs 0 except pairs 1 and 6, which are 1
-abbrev cost : ℕ → Float
+abbrev pub cost : ℕ → Float
 cost q = cond (eqb q 1 || eqb q 6) (whole 1) (whole 0)
 
 abbrev row : (ℕ → Float) → ℕ → List Float
 row f n = table 6 (λ (i : ℕ). f (n + i))
 
 -- by the keyframe and the number; Fast does not read `others`
-abbrev standardCall : ℕ → ℕ → Call
+abbrev pub standardCall : ℕ → ℕ → Call
 standardCall p n = call 7 n p (row cost n) (row whole n) (row whole n)
 
-abbrev fastCall : List Float → ℕ → ℕ → Call
+abbrev pub fastCall : List Float → ℕ → ℕ → Call
 fastCall others p n = call 7 n p (row cost n) others others
 
 -- j calls, from call a on
-unfoldable pub callsFrom : (ℕ → Call) → ℕ → ℕ → List Call
-callsFrom f a zero = []
-callsFrom f a (suc j) = f a ∷ callsFrom f (suc a) j
+unfoldable pub successive : (ℕ → Call) → ℕ → ℕ → List Call
+successive f a zero = []
+successive f a (suc j) = f a ∷ successive f (suc a) j
 
 -- ---- two lists of calls with refused ones among them
 
--- behind the meeting: a set of two frames, whose pair is measured otherwise
-abbrev shortCall : ℕ → Call
-shortCall n = call 2 n 0 (whole 9 ∷ []) (whole 9 ∷ []) (whole 9 ∷ [])
+-- a set of two frames, by what was measured of its pair
+abbrev pub shortCall : (ℕ → Float) → (ℕ → Float) → ℕ → Call
+shortCall inter other n = call 2 n 0 (inter n ∷ []) (other n ∷ []) (other n ∷ [])
 
--- from 3 on: 4 + j calls until they meet, and one behind that
-abbrev newAccepted : (ℕ → Call) → ℕ → List Call
-newAccepted late j = callsFrom late 3 (4 + j) ++ (shortCall (7 + j) ∷ [])
+-- behind the meeting: its pair is measured otherwise
+abbrev otherwise : ℕ → Call
+otherwise n = shortCall (λ (q : ℕ). whole 9) (λ (q : ℕ). whole 9) n
+
+-- from 3 on: 4 + j calls, and a last one behind them
+abbrev pub newAccepted : (ℕ → Call) → (ℕ → Call) → ℕ → List Call
+newAccepted late last j = successive late 3 (4 + j) ++ (last (7 + j) ∷ [])
 
 -- refused is a set of 17 frames (8)
-abbrev newCalls : (ℕ → Call) → ℕ → List Call
-newCalls late j = call 17 3 0 [] [] [] ∷ newAccepted late j
+abbrev pub newCalls : (ℕ → Call) → (ℕ → Call) → ℕ → List Call
+newCalls late last j = call 17 3 0 [] [] [] ∷ newAccepted late last j
 
 -- calls 1 and 2, and then the same
-abbrev oldAccepted : (ℕ → Call) → (ℕ → Call) → ℕ → List Call
-oldAccepted early late j = early 1 ∷ early 2 ∷ newAccepted late j
+abbrev pub oldAccepted : (ℕ → Call) → (ℕ → Call) → (ℕ → Call) → ℕ → List Call
+oldAccepted early late last j = early 1 ∷ early 2 ∷ newAccepted late last j
 
 -- refused are number 0 (7), a longer set (8) and a list that is too short (10)
-abbrev oldCalls : (ℕ → Call) → (ℕ → Call) → ℕ → List Call
-oldCalls early late j =
-    late 0 ∷ early 1 ∷ call 8 2 0 [] [] [] ∷ early 2 ∷ (callsFrom late 3 4 ++ (call 7 7 0 [] [] [] ∷ (callsFrom late 7 j ++ (shortCall (7 + j) ∷ []))))
+abbrev pub oldCalls : (ℕ → Call) → (ℕ → Call) → (ℕ → Call) → ℕ → List Call
+oldCalls early late last j =
+    late 0 ∷ early 1 ∷ call 8 2 0 [] [] [] ∷ early 2 ∷ (successive late 3 4 ++ (call 7 7 0 [] [] [] ∷ (successive late 7 j ++ (last (7 + j) ∷ []))))
 
 -- the old one's until they meet
-abbrev oldUntil : (ℕ → Call) → (ℕ → Call) → ℕ → List Call
-oldUntil early late j = early 1 ∷ early 2 ∷ callsFrom late 3 (4 + j)
+abbrev pub oldUntil : (ℕ → Call) → (ℕ → Call) → ℕ → List Call
+oldUntil early late j = early 1 ∷ early 2 ∷ successive late 3 (4 + j)
 
-abbrev plainSettings : ℕ → Settings
+abbrev pub plainSettings : ℕ → Settings
 plainSettings mode = record {
   width = 64;
   height = 64;
@@ -104,64 +108,64 @@ plainSettings mode = record {
   «max_key_frame_interval» = 100;
 }
 
-abbrev standard : Settings
+abbrev pub standard : Settings
 standard = plainSettings modeStandard
 
-abbrev fast : Settings
+abbrev pub fast : Settings
 fast = plainSettings modeFast
 
 -- each call before the later start has its own number as keyframe, each from then on 0
-abbrev earlyStandard : ℕ → Call
+abbrev pub earlyStandard : ℕ → Call
 earlyStandard n = standardCall n n
 
-abbrev lateStandard : ℕ → Call
+abbrev pub lateStandard : ℕ → Call
 lateStandard n = standardCall 0 n
 
-abbrev earlyFast : ℕ → Call
+abbrev pub earlyFast : ℕ → Call
 earlyFast n = fastCall [] n n
 
-abbrev oldFast : ℕ → Call
+abbrev pub oldFast : ℕ → Call
 oldFast n = fastCall [] 0 n
 
-abbrev newFast : ℕ → Call
+abbrev pub newFast : ℕ → Call
 newFast n = fastCall (nan ∷ []) 0 n
 
-tested : ((acceptedAmong (freshView standard) (oldCalls earlyStandard lateStandard 6) ≡ oldAccepted earlyStandard lateStandard 6)
-    × (acceptedAmong (freshView standard) (newCalls lateStandard 6) ≡ newAccepted lateStandard 6))
-    × ((acceptedAmong (freshView fast) (oldCalls earlyFast oldFast 1) ≡ oldAccepted earlyFast oldFast 1)
-    × (acceptedAmong (freshView fast) (newCalls newFast 1) ≡ newAccepted newFast 1))
+tested : ((acceptedAmong (freshView standard) (oldCalls earlyStandard lateStandard otherwise 6) ≡ oldAccepted earlyStandard lateStandard otherwise 6)
+    × (acceptedAmong (freshView standard) (newCalls lateStandard otherwise 6) ≡ newAccepted lateStandard otherwise 6))
+    × ((acceptedAmong (freshView fast) (oldCalls earlyFast oldFast otherwise 1) ≡ oldAccepted earlyFast oldFast otherwise 1)
+    × (acceptedAmong (freshView fast) (newCalls newFast otherwise 1) ≡ newAccepted newFast otherwise 1))
 unfolding
-    acceptedAmong callsFrom table stepOf acceptedOf stepFault stateFault numberFault lengthFault stopFault listsFault settingsFault
+    acceptedAmong successive table stepOf acceptedOf stepFault stateFault numberFault lengthFault stopFault listsFault settingsFault
     sizeFault depthFault badSide anyOf walkBack backwardOf isScaled fastThreshold answered factorBy scaleOf _orElse_ ofBits ofInt sub mul div
     lt le eq
 tested = ((refl, refl), (refl, refl))
 
 -- ---- what is asked of the old one's calls until they meet
 
-from-all : (P : Call → Type 0) (f : ℕ → Call) → ((n : ℕ) → P (f n)) → (a j : ℕ) → All P (callsFrom f a j)
-unfolding callsFrom
+from-all : (P : Call → Type 0) (f : ℕ → Call) → ((n : ℕ) → P (f n)) → (a j : ℕ) → All P (successive f a j)
+unfolding successive
 from-all P f p a zero = tt
 from-all P f p a (suc j) = (p a, from-all P f p (suc a) j)
 
-old-all : (P : Call → Type 0) (early late : ℕ → Call) (j : ℕ) → ((n : ℕ) → P (early n)) → ((n : ℕ) → P (late n)) → All P (oldUntil early late j)
+pub old-all : (P : Call → Type 0) (early late : ℕ → Call) (j : ℕ) → ((n : ℕ) → P (early n)) → ((n : ℕ) → P (late n)) → All P (oldUntil early late j)
 old-all P early late j p q = (p 1, (p 2, from-all P late q 3 (4 + j)))
 
-abbrev standardPairs : ℕ → Measure
+abbrev pub standardPairs : ℕ → Measure
 standardPairs q = record { inter = cost q; importance = whole q; threshold = whole q }
 
-standard-film : (p n : ℕ) → OfFilm standard standardPairs (standardCall p n)
+pub standard-film : (p n : ℕ) → OfFilm standard standardPairs (standardCall p n)
 standard-film p n k h = rw (table-at nan 6 (λ (i : ℕ). cost (n + i)) k (omega arith), table-at nan 6 (λ (i : ℕ). whole (n + i)) k (omega arith))
 
-abbrev fastPairs : ℕ → Measure
+abbrev pub fastPairs : ℕ → Measure
 fastPairs q = record { inter = cost q; importance = zeroF; threshold = zeroF }
 
-fast-film : (others : List Float) (p n : ℕ) → OfFilm fast fastPairs (fastCall others p n)
+pub fast-film : (others : List Float) (p n : ℕ) → OfFilm fast fastPairs (fastCall others p n)
 fast-film others p n k h = rw (table-at nan 6 (λ (i : ℕ). cost (n + i)) k (omega arith))
 
 -- ---- every hypothesis
 
-standard-calls : Restart standard 2 (oldAccepted earlyStandard lateStandard 6) (newAccepted lateStandard 6)
-unfolding callsFrom
+standard-calls : Restart standard 2 (oldAccepted earlyStandard lateStandard otherwise 6) (newAccepted lateStandard otherwise 6)
+unfolding successive
 standard-calls = record {
   mode = refl;
   lookahead = omega arith;
@@ -172,8 +176,8 @@ standard-calls = record {
   enough = omega arith;
 }
 
-fast-calls : Restart fast 2 (oldAccepted earlyFast oldFast 1) (newAccepted newFast 1)
-unfolding callsFrom
+fast-calls : Restart fast 2 (oldAccepted earlyFast oldFast otherwise 1) (newAccepted newFast otherwise 1)
+unfolding successive
 fast-calls = record {
   mode = refl;
   lookahead = omega arith;
@@ -187,16 +191,16 @@ fast-calls = record {
 -- ---- of a detector that runs: its histories of these calls, from a fresh one on, satisfy the hypotheses, so they have met
 
 abbrev oldStandard : List Call
-oldStandard = oldCalls earlyStandard lateStandard 6
+oldStandard = oldCalls earlyStandard lateStandard otherwise 6
 
 abbrev newStandard : List Call
-newStandard = newCalls lateStandard 6
+newStandard = newCalls lateStandard otherwise 6
 
 abbrev oldInFast : List Call
-oldInFast = oldCalls earlyFast oldFast 1
+oldInFast = oldCalls earlyFast oldFast otherwise 1
 
 abbrev newInFast : List Call
-newInFast = newCalls newFast 1
+newInFast = newCalls newFast otherwise 1
 
 module _ (D : Detector) (M : Makes D) (Alike : D .Kept → D .Kept → Type 0) where
   -- two histories that begin with k
@@ -255,8 +259,8 @@ module _ (ns : List ℕ) (xs : List Float) (is : isState ns xs ≡ true) where
 abbrev releaseAfter : List Call → ℕ
 releaseAfter cs = stateAfter (freshView fast) cs .release
 
-pub releases-apart : (releaseAfter (oldAccepted earlyFast oldFast 1) ≡ 0) × (releaseAfter (newAccepted newFast 1) ≡ 2)
+pub releases-apart : (releaseAfter (oldAccepted earlyFast oldFast otherwise 1) ≡ 0) × (releaseAfter (newAccepted newFast otherwise 1) ≡ 2)
 unfolding
-    stateAfter callsFrom table stepOf acceptedOf stepFault stateFault numberFault lengthFault stopFault listsFault settingsFault
+    stateAfter successive table stepOf acceptedOf stepFault stateFault numberFault lengthFault stopFault listsFault settingsFault
     sizeFault depthFault badSide anyOf isScaled fastThreshold answered factorBy scaleOf _orElse_ ofBits ofInt sub mul div lt le eq
 releases-apart = (refl, refl)

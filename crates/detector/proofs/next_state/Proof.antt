@@ -2,18 +2,16 @@
 -- deque's count is that of its entries.
 -- Assumes nothing.
 use mathlib.Core.Path.{_≡_, sym, _∙_}
-use mathlib.Core.Bool.{cond}
 use mathlib.Core.Logic.{⊎-elim}
 use borrow.Author.Tests.{ne-eqb}
-use lib.Dec.{eqb}
 use borrow.Author.Needs.{needs}
-use Rattle.detector.specs.Rules.{leftFrame}
+use Rattle.state.specs.State.{view}
+use Rattle.detector.specs.Rules.{firstOf, startRelease}
 use Rattle.detector.proofs.next_state.Statement.{statement}
 use Rattle.detector.proofs.next_state.Tie as tie
 
-joined : (c : tie.Joined1)
-    → (c .if1 .first ≡ cond (eqb (c .before .before .before .args .s .«last_number») 0) (c .before .before .before .args .n) (c .before .before .before .args .s .«first_number»))
-    × (c .if1 .release ≡ cond (eqb (c .before .before .before .args .s .«last_number») 0) (leftFrame (c .before .before .before .args .n)) (c .before .before .before .args .s .«release_number»))
+joined : (c : tie.Joined1) → let a = c .before .before .before .args in
+    (c .if1 .first ≡ firstOf (view (a .s)) (a .n)) × (c .if1 .release ≡ startRelease (view (a .s)) (a .n))
 joined c =
     ⊎-elim (λ w. rw (w .0 .taken) (w .2, w .3 ∙ w .1 .ensures)) (λ w. rw (ne-eqb _ _ (w .0 .left)) (w .1, w .2)) (c .if1 .came)
 
