@@ -131,7 +131,7 @@ module _ (D : Detector) (S : Shows D) (Alike : D .Kept → D .Kept → Type 0)
       neverPurged = λ g run later f.
           let r = release (keptAfter D (run .begun) (run .made)) in
           let w = history-leaves D S (keptAfter D (run .begun) (run .made)) later (sound D S g run) f in
-          all-so (λ (c : Call). suc r ≤ c .number) (λ (c : Call). (x : ℕ) → LooksAt c x → r ≤ x) (λ c h x l. omega (arith, l .0))
+          all-so (λ (c : Call). suc r ≤ c .number) _ (λ c h x l. omega (arith, l .0))
           (callsFrom (restartCall r) (acceptedIn D (run .made)) ++ acceptedIn D later)
           (all-join (λ (c : Call). suc r ≤ c .number) (callsFrom (restartCall r) (acceptedIn D (run .made))) (acceptedIn D later)
           (above (restartCall r) (acceptedIn D (run .made)))
