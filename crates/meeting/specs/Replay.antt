@@ -12,7 +12,6 @@ use Rattle.settings.specs.declared.Settings.{Settings}
 use Rattle.settings.specs.Settings.{isNone}
 use Rattle.state.specs.State.{Call}
 use Rattle.state.specs.declared.State.{State}
-use Rattle.detector.specs.Rules.{leftFrame}
 use Rattle.detector.specs.Histories.{Detector, Made, Follows, keptAfter, callsIn, acceptedIn, History, lastKept, acceptedCalls, byValue}
 use Rattle.lent.specs.Places.{releasePlace}
 use Rattle.lent.specs.Histories.{byPlaces, numberAt, SamePlaces}
@@ -42,7 +41,7 @@ pub record Again (g : Settings) (release : ℕ) (old new : List Call) : Type 0 w
 
 -- the frames that a call looks at, n − 1 to n + L − 2: "n is the number of the set's second frame"
 abbrev pub LooksAt : Call → ℕ → Type 0
-LooksAt c f = (leftFrame (c .number) ≤ f) × (f + 2 ≤ c .number + c .setLength)
+LooksAt c f = (c .number ≤ f + 1) × (f + 2 ≤ c .number + c .setLength)
 
 -- The statements, of a detector D that runs. `Alike` says which of its states are the same, "first and release numbers apart"; `release`
 -- reads the release number.
