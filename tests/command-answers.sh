@@ -10,8 +10,8 @@ awk 'BEGIN {
     print "0,1,,,,,,0"
     for (n = 1; n <= 15; n++) {
         d = n == 6 ? 40 : 0
-        if (n <= 11) printf "%d,%d,%d,%d,%d,%d,18,1\n", n, n == 6, d, d, d, d
-        else printf "%d,0,,,,,,1\n", n
+        if (n <= 11) printf "%d,%d,%d,%d,%d,%d,18,0\n", n, n == 6, d, d, d, d
+        else printf "%d,0,,,,,,0\n", n
     }
 }' > "$expected"
 gives "fast mode, every line" "$expected" decide "$flat" --csv
@@ -24,11 +24,11 @@ for colour in - 420 420mpeg2 420paldv 422 444 mono; do
     gives "colour space $colour, odd sides" "$expected" decide "$room/odd.y4m" --csv
 done
 
-# The release number is the larger of 1 and n - 9 while sets have seven frames.
+# The release number is one less than the larger of 1 and n - 9 while sets have seven frames.
 film y4m 16 16 mono $luma $luma > "$room/long.y4m"
 command_run decide --csv "$room/long.y4m"
 numbers=$(awk -F, 'NR == 21 || NR == 27 || NR == 33 { printf "%s ", $1 ":" $8 }' "$room/out")
-[ "$numbers" = "19:10 25:16 31:17 " ]
+[ "$numbers" = "19:9 25:15 31:16 " ]
 verdict "release numbers" $?
 
 cuts_at "min 7 forbids the cut at 6" "0" "$flat" --min 7
@@ -49,20 +49,20 @@ cuts_at "a film of two frames" "0" "$room/two.y4m"
 # A film whose sides are halved: columns of 16 and 17 have the mean 16.5, which goes up to 17; so 40 lies 23 above.
 film y4m 482 242 mono 16/17 16/17 16/17 16/17 16/17 16/17 40 40 40 40 40 40 40 > "$room/halved.y4m"
 command_run decide --csv "$room/halved.y4m"
-[ "$(sed -n 8p "$room/out")" = "6,1,23,23,23,23,18,1" ]
+[ "$(sed -n 8p "$room/out")" = "6,1,23,23,23,23,18,0" ]
 verdict "planes are reduced by the scale rule" $?
 
 # Standard: SATD of flat 90 against 128 is 38 * 64 / 8 = 304, and 304 * (1.0 - 0.7) is the threshold.
 awk 'BEGIN { for (n = 1; n <= 15; n++) print n == 6 ? "500" : " 2.5e0\r" }' > "$costs"
 command_run decide --csv --mode standard --inter "$costs" "$flat"
-[ "$(sed -n 8p "$room/out")" = "6,1,500,40,497.5,497.5,91.20000000000002,1" ]
+[ "$(sed -n 8p "$room/out")" = "6,1,500,40,497.5,497.5,91.20000000000002,0" ]
 verdict "standard mode, the cut's line" $?
 [ "$(cuts)" = "0 6" ]
 verdict "standard mode, the cuts" $?
 film y4m 7 7 mono 1 2 3 4 > "$room/small.y4m"
 printf '1\n2\n3\n' > "$costs"
 command_run decide --csv --mode standard --inter "$costs" --lookahead 1 "$room/small.y4m"
-[ "$status" = 0 ] && [ "$(sed -n 3p "$room/out")" = "1,0,2,nan,0,0,nan,1" ]
+[ "$status" = 0 ] && [ "$(sed -n 3p "$room/out")" = "1,0,2,nan,0,0,nan,0" ]
 verdict "standard mode without a whole block" $?
 
 command_run decide "$flat"
@@ -84,6 +84,7 @@ gives "measure" "$expected" measure "$p" "$q"
 command_run demo
 [ "$status" = 0 ] && [ ! -s "$room/err" ] && grep -q 'no cut at 9, no cut at 10' "$room/out" &&
     grep -q 'a cut at 18' "$room/out" && [ "$(grep -c ' CUT ' "$room/out")" = 1 ] &&
+    grep -q 'Frames below 14 may be purged' "$room/out" &&
     awk 'length($0) > 80 { exit 1 }' "$room/out"
 verdict "demo" $?
 

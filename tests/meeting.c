@@ -254,7 +254,7 @@ static bool all_pairs(uint32_t of_mode)
     return EXPECT_NUMBER((int64_t)seen.firsts, PAIRS);
 }
 
-/* At the tenth call the release number is the fresh one's first number in both. */
+/* At the tenth call the release number is one below the fresh one's first number in both. */
 static void standard(void)
 {
     if (!all_pairs(STANDARD))
@@ -264,8 +264,8 @@ static void standard(void)
     EXPECT_NUMBER((int64_t)seen.releases, 0);
 }
 
-/* After four calls the fresh one lacks a score. At the fifth its release number is still its first number, and the old
-   one's is lower. */
+/* After four calls the fresh one lacks a score. At the fifth its release number is still one below its first number, and
+   the old one's is lower. */
 static void fast(void)
 {
     if (!all_pairs(FAST))
