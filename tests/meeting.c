@@ -88,17 +88,9 @@ static bool accepts(struct history *history, const struct step *call)
     return EXPECT(history->answer >= 0 && history->answer <= 3) && EXPECT(others_kept(history));
 }
 
-/* All is equal but the first and the release number, and what lies past the count. */
 static bool same_states(void)
 {
-    const struct places *const a = &old.now, *const b = &fresh.now;
-    for (size_t i = 0; i < BRINE_NUMBERS; i++)
-        if (i != FIRST && i != RELEASE && a->numbers[i] != b->numbers[i])
-            return false;
-    for (size_t i = 0; i < BRINE_SCORE_DOUBLES * a->numbers[COUNT]; i++)
-        if (!same_double(a->scores[i], b->scores[i]))
-            return false;
-    return true;
+    return same_state(old.now.numbers, old.now.scores, fresh.now.numbers, fresh.now.scores);
 }
 
 /* Any number of refused calls, mostly none, where call n comes next. Their sets may be short, their lists another film's. */
