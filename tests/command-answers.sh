@@ -31,6 +31,69 @@ numbers=$(awk -F, 'NR == 21 || NR == 27 || NR == 33 { printf "%s ", $1 ":" $8 }'
 [ "$numbers" = "19:9 25:15 31:16 " ]
 verdict "release numbers" $?
 
+# --purge on the same film: 32 frames, differences of 40 at 6, 16 and 22. Calls 1 to 26 have sets of seven, 27 one of six. The
+# release number is n - 10 from call 11 to call 26, so frame n - 11 goes after each of them, and 16 to 31 stay.
+purged() { # FIRST
+    awk -v first="$1" -v CONVFMT=%.0f 'BEGIN {
+        print "frame,cut,inter,importance,backward,forward,threshold,release,purge"
+        print first ",1,,,,,,0,"
+        for (n = 1; n <= 31; n++) {
+            d = n == 6 || n == 16 || n == 22 ? 40 : 0
+            score = n <= 27 ? d "," d "," d "," d ",18" : ",,,,"
+            release = first + (n <= 10 ? 0 : n <= 26 ? n - 10 : 16)
+            print first + n "," (d > 0) "," score "," release "," (n >= 11 && n <= 26 ? first + n - 11 : "")
+        }
+    }'
+}
+# The same lines for people, and the last one.
+in_words() { # FIRST
+    awk -F, -v first="$1" 'function put(text, wide) { line = line sprintf(" %" wide "s", text == "" ? "-" : text) }
+    {
+        line = sprintf("%7s", $1)
+        put(NR == 1 ? $2 : $1 == first ? "first" : $2 ? "cut" : ".", 5)
+        for (i = 3; i <= 7; i++) put($i, 10)
+        put($8, 9)
+        put($9, 9)
+        print line
+    }
+    END { print "32 frames, 3 cuts" }'
+}
+for first in 0 100 4294967264; do
+    purged "$first" > "$expected"
+    gives "--purge --first $first, every line" "$expected" decide --csv --purge --first "$first" "$room/long.y4m"
+    in_words "$first" < "$expected" > "$room/words"
+    gives "--purge --first $first, lines for people" "$room/words" decide "$room/long.y4m" --first "$first" --purge
+done
+purged 0 > "$expected"
+gives "--purge, longer sets that get short" "$expected" decide --csv --purge --lookahead 14 "$room/long.y4m"
+gives "--purge with a log" "$expected" decide --csv --purge "$room/long.y4m" --log "$room/purge.log"
+[ "$(wc -c < "$room/purge.log")" = $((27 * 47)) ]
+verdict "--purge with a log: a record for each score" $?
+cut -d , -f 1-8 "$expected" > "$room/words"
+gives "without --purge there is no such column" "$room/words" decide --csv "$room/long.y4m"
+goes() { awk -F, 'NR > 1 && $9 != "" { printf "%s ", $9 }' "$room/out"; }
+awk 'BEGIN { while (n++ < 31) print n % 5 }' > "$room/purge.costs"
+command_run decide --csv --purge --mode standard --inter "$room/purge.costs" "$room/long.y4m"
+[ "$status" = 0 ] && [ "$(goes)" = "0 1 2 3 4 5 6 7 8 9 10 11 12 13 14 15 " ]
+verdict "--purge in standard mode" $?
+for words in '--mode none --max 4' '--lookahead 4'; do
+    # shellcheck disable=SC2086 # words
+    command_run decide --csv --purge $words "$room/long.y4m"
+    [ "$status" = 0 ] && [ "$(awk -F, 'NF == 9 && $9 == ""' "$room/out" | wc -l)" = 32 ] &&
+        [ "$(awk -F, 'NR > 1 && $8 != 0' "$room/out")" = "" ]
+    verdict "--purge $words: no frame goes" $?
+done
+command_run decide --purge --mode none "$room/long.y4m"
+[ "$status" = 0 ] && [ "$(grep -Ec '^ +[0-9]+ +(first|\.)( +-){5} +0 +-$' "$room/out")" = 32 ]
+verdict "--purge --mode none, lines for people" $?
+for frames in 1 2 16 17; do
+    # shellcheck disable=SC2046 # words
+    film y4m 16 16 mono $(awk -v n="$frames" 'BEGIN { while (n-- > 0) print 50 }') > "$room/short.y4m"
+    command_run decide --csv --purge "$room/short.y4m"
+    [ "$status" = 0 ] && [ "$(goes)" = "$([ "$frames" = 17 ] && echo '0 ')" ]
+    verdict "--purge, a film of $frames frames" $?
+done
+
 cuts_at "min 7 forbids the cut at 6" "0" "$flat" --min 7
 cuts_at "max 3 cuts every third frame" "0 3 6 9" "$flat" --max 3
 cuts_at "none mode: every fourth frame, and none in the last four" "0 4 8" "$flat" --mode none --max 4
