@@ -34,7 +34,7 @@ verdict "release numbers" $?
 # --purge on the same film: 32 frames, differences of 40 at 6, 16 and 22. Calls 1 to 26 have sets of seven, 27 one of six. The
 # release number is n - 10 from call 11 to call 26, so frame n - 11 goes after each of them, and 16 to 31 stay.
 purged() { # FIRST
-    awk -v first="$1" -v CONVFMT=%.0f 'BEGIN {
+    awk -v first="$1" 'BEGIN {
         print "frame,cut,inter,importance,backward,forward,threshold,release,purge"
         print first ",1,,,,,,0,"
         for (n = 1; n <= 31; n++) {
@@ -58,7 +58,7 @@ in_words() { # FIRST
     }
     END { print "32 frames, 3 cuts" }'
 }
-for first in 0 100 4294967264; do
+for first in 0 100 1000000; do
     purged "$first" > "$expected"
     gives "--purge --first $first, every line" "$expected" decide --csv --purge --first "$first" "$room/long.y4m"
     in_words "$first" < "$expected" > "$room/words"
