@@ -46,7 +46,11 @@ static uint64_t previous[CARD_FRAMES + 1]; /* of each call, from the first frame
 
 /* What was seen, over all runs of a test. */
 static struct {
-    size_t wiped, restarts, later, again, refused, cuts, no_cuts;
+    size_t wiped;   /* frames */
+    size_t later;   /* restarts from a later call than the run's first */
+    size_t again;   /* calls that were given again */
+    size_t refused; /* refused ones among these */
+    size_t cuts, no_cuts;
 } seen;
 
 static size_t set_of(const struct plan *plan, uint64_t n)
@@ -130,7 +134,6 @@ static bool restart(const struct plan *plan, uint64_t last)
         if (!EXPECT(detector_step(&forgetful.detector, &call) >= 0))
             return false;
     }
-    seen.restarts++;
     seen.later += card->from > plan->first;
     return both_same();
 }
@@ -172,7 +175,8 @@ static bool all_runs(const struct plan *plans, size_t count)
     return EXPECT(seen.no_cuts >= LEAST_NO_CUTS);
 }
 
-/* Films that begin at 0, later, and so that their last frame has the last number; short sets and the longest. */
+/* Films that begin at 0, later, and so that their last frame has the last number. Sets of seven frames, longer ones, and the
+   longest: all of them get shorter at the film's end. */
 static void frames_go(uint32_t mode)
 {
     const struct plan plans[] = {
