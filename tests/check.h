@@ -21,6 +21,7 @@ extern const struct test fresh_tests[];
 extern const struct test step_tests[];
 extern const struct test run_tests[];
 extern const struct test meeting_tests[];
+extern const struct test purge_tests[];
 extern const struct test log_tests[];
 extern const struct test refused_tests[];
 extern const struct test torn_tests[];

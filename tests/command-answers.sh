@@ -10,8 +10,8 @@ awk 'BEGIN {
     print "0,1,,,,,,0"
     for (n = 1; n <= 15; n++) {
         d = n == 6 ? 40 : 0
-        if (n <= 11) printf "%d,%d,%d,%d,%d,%d,18,1\n", n, n == 6, d, d, d, d
-        else printf "%d,0,,,,,,1\n", n
+        if (n <= 11) printf "%d,%d,%d,%d,%d,%d,18,0\n", n, n == 6, d, d, d, d
+        else printf "%d,0,,,,,,0\n", n
     }
 }' > "$expected"
 gives "fast mode, every line" "$expected" decide "$flat" --csv
@@ -24,12 +24,75 @@ for colour in - 420 420mpeg2 420paldv 422 444 mono; do
     gives "colour space $colour, odd sides" "$expected" decide "$room/odd.y4m" --csv
 done
 
-# The release number is the larger of 1 and n - 9 while sets have seven frames.
+# The release number is one less than the larger of 1 and n - 9 while sets have seven frames.
 film y4m 16 16 mono $luma $luma > "$room/long.y4m"
 command_run decide --csv "$room/long.y4m"
 numbers=$(awk -F, 'NR == 21 || NR == 27 || NR == 33 { printf "%s ", $1 ":" $8 }' "$room/out")
-[ "$numbers" = "19:10 25:16 31:17 " ]
+[ "$numbers" = "19:9 25:15 31:16 " ]
 verdict "release numbers" $?
+
+# --purge on the same film: 32 frames, differences of 40 at 6, 16 and 22. Calls 1 to 26 have sets of seven, 27 one of six. The
+# release number is n - 10 from call 11 to call 26, so frame n - 11 goes after each of them, and 16 to 31 stay.
+purged() { # FIRST
+    awk -v first="$1" 'BEGIN {
+        print "frame,cut,inter,importance,backward,forward,threshold,release,purge"
+        print first ",1,,,,,,0,"
+        for (n = 1; n <= 31; n++) {
+            d = n == 6 || n == 16 || n == 22 ? 40 : 0
+            score = n <= 27 ? d "," d "," d "," d ",18" : ",,,,"
+            release = first + (n <= 10 ? 0 : n <= 26 ? n - 10 : 16)
+            print first + n "," (d > 0) "," score "," release "," (n >= 11 && n <= 26 ? first + n - 11 : "")
+        }
+    }'
+}
+# The same lines for people, and the last one.
+in_words() { # FIRST
+    awk -F, -v first="$1" 'function put(text, wide) { line = line sprintf(" %" wide "s", text == "" ? "-" : text) }
+    {
+        line = sprintf("%7s", $1)
+        put(NR == 1 ? $2 : $1 == first ? "first" : $2 ? "cut" : ".", 5)
+        for (i = 3; i <= 7; i++) put($i, 10)
+        put($8, 9)
+        put($9, 9)
+        print line
+    }
+    END { print "32 frames, 3 cuts" }'
+}
+for first in 0 100 1000000; do
+    purged "$first" > "$expected"
+    gives "--purge --first $first, every line" "$expected" decide --csv --purge --first "$first" "$room/long.y4m"
+    in_words "$first" < "$expected" > "$room/words"
+    gives "--purge --first $first, lines for people" "$room/words" decide "$room/long.y4m" --first "$first" --purge
+done
+purged 0 > "$expected"
+gives "--purge, longer sets that get short" "$expected" decide --csv --purge --lookahead 14 "$room/long.y4m"
+gives "--purge with a log" "$expected" decide --csv --purge "$room/long.y4m" --log "$room/purge.log"
+[ "$(wc -c < "$room/purge.log")" = $((27 * 47)) ]
+verdict "--purge with a log: a record for each score" $?
+cut -d , -f 1-8 "$expected" > "$room/words"
+gives "without --purge there is no such column" "$room/words" decide --csv "$room/long.y4m"
+goes() { awk -F, 'NR > 1 && $9 != "" { printf "%s ", $9 }' "$room/out"; }
+awk 'BEGIN { while (n++ < 31) print n % 5 }' > "$room/purge.costs"
+command_run decide --csv --purge --mode standard --inter "$room/purge.costs" "$room/long.y4m"
+[ "$status" = 0 ] && [ "$(goes)" = "0 1 2 3 4 5 6 7 8 9 10 11 12 13 14 15 " ]
+verdict "--purge in standard mode" $?
+for words in '--mode none --max 4' '--lookahead 4'; do
+    # shellcheck disable=SC2086 # words
+    command_run decide --csv --purge $words "$room/long.y4m"
+    [ "$status" = 0 ] && [ "$(awk -F, 'NF == 9 && $9 == ""' "$room/out" | wc -l)" = 32 ] &&
+        [ "$(awk -F, 'NR > 1 && $8 != 0' "$room/out")" = "" ]
+    verdict "--purge $words: no frame goes" $?
+done
+command_run decide --purge --mode none "$room/long.y4m"
+[ "$status" = 0 ] && [ "$(grep -Ec '^ +[0-9]+ +(first|\.)( +-){5} +0 +-$' "$room/out")" = 32 ]
+verdict "--purge --mode none, lines for people" $?
+for frames in 1 2 16 17; do
+    # shellcheck disable=SC2046 # words
+    film y4m 16 16 mono $(awk -v n="$frames" 'BEGIN { while (n-- > 0) print 50 }') > "$room/short.y4m"
+    command_run decide --csv --purge "$room/short.y4m"
+    [ "$status" = 0 ] && [ "$(goes)" = "$([ "$frames" = 17 ] && echo '0 ')" ]
+    verdict "--purge, a film of $frames frames" $?
+done
 
 cuts_at "min 7 forbids the cut at 6" "0" "$flat" --min 7
 cuts_at "max 3 cuts every third frame" "0 3 6 9" "$flat" --max 3
@@ -49,20 +112,20 @@ cuts_at "a film of two frames" "0" "$room/two.y4m"
 # A film whose sides are halved: columns of 16 and 17 have the mean 16.5, which goes up to 17; so 40 lies 23 above.
 film y4m 482 242 mono 16/17 16/17 16/17 16/17 16/17 16/17 40 40 40 40 40 40 40 > "$room/halved.y4m"
 command_run decide --csv "$room/halved.y4m"
-[ "$(sed -n 8p "$room/out")" = "6,1,23,23,23,23,18,1" ]
+[ "$(sed -n 8p "$room/out")" = "6,1,23,23,23,23,18,0" ]
 verdict "planes are reduced by the scale rule" $?
 
 # Standard: SATD of flat 90 against 128 is 38 * 64 / 8 = 304, and 304 * (1.0 - 0.7) is the threshold.
 awk 'BEGIN { for (n = 1; n <= 15; n++) print n == 6 ? "500" : " 2.5e0\r" }' > "$costs"
 command_run decide --csv --mode standard --inter "$costs" "$flat"
-[ "$(sed -n 8p "$room/out")" = "6,1,500,40,497.5,497.5,91.20000000000002,1" ]
+[ "$(sed -n 8p "$room/out")" = "6,1,500,40,497.5,497.5,91.20000000000002,0" ]
 verdict "standard mode, the cut's line" $?
 [ "$(cuts)" = "0 6" ]
 verdict "standard mode, the cuts" $?
 film y4m 7 7 mono 1 2 3 4 > "$room/small.y4m"
 printf '1\n2\n3\n' > "$costs"
 command_run decide --csv --mode standard --inter "$costs" --lookahead 1 "$room/small.y4m"
-[ "$status" = 0 ] && [ "$(sed -n 3p "$room/out")" = "1,0,2,nan,0,0,nan,1" ]
+[ "$status" = 0 ] && [ "$(sed -n 3p "$room/out")" = "1,0,2,nan,0,0,nan,0" ]
 verdict "standard mode without a whole block" $?
 
 command_run decide "$flat"
@@ -84,6 +147,7 @@ gives "measure" "$expected" measure "$p" "$q"
 command_run demo
 [ "$status" = 0 ] && [ ! -s "$room/err" ] && grep -q 'no cut at 9, no cut at 10' "$room/out" &&
     grep -q 'a cut at 18' "$room/out" && [ "$(grep -c ' CUT ' "$room/out")" = 1 ] &&
+    grep -q 'Frames below 14 may be purged' "$room/out" &&
     awk 'length($0) > 80 { exit 1 }' "$room/out"
 verdict "demo" $?
 

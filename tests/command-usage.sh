@@ -8,6 +8,8 @@ verdict "--help" $?
 command_run decide --help
 [ "$status" = 0 ] && grep -q 'decide FILM.y4m' "$room/out"
 verdict "decide --help" $?
+grep -q 'first N\] \[--purge\] \[--csv\]' "$room/out" && grep -q '^ *--purge  *one more column' "$room/out"
+verdict "decide --help: --purge" $?
 command_run --version
 [ "$status" = 0 ] && grep -Eq '^brinepulley [0-9]+\.[0-9]+\.[0-9]+$' "$room/out"
 verdict "--version" $?
@@ -15,7 +17,11 @@ verdict "--version" $?
 ends "no command" 2 "which command"
 ends "an unknown command" 2 "no command 'dance'" dance
 ends "an unknown option" 2 "no option '--fast'" decide "$a" --fast
+ends "an option that is nearly --purge" 2 "no option '--purged'" decide "$a" --purged
+ends "--purge takes no value" 2 "one film, not '$a' and '1'" decide "$a" --purge 1
+ends "log has no --purge" 2 "no option '--purge'" log "$a" --purge
 ends "no film" 2 "wants a film" decide --csv
+ends "no film, and --purge" 2 "wants a film" decide --purge
 ends "two films" 2 "one film" decide "$a" "$a"
 ends "an option without its value" 2 "--min wants a value" decide "$a" --min
 ends "an unknown mode" 2 "--mode wants" decide "$a" --mode slow

@@ -15,6 +15,11 @@ void detector_make(struct detector *detector, uint32_t mode, size_t lookahead)
 {
     detector->numbers = lent_make(&detector->lent_numbers, BRINE_NUMBERS * sizeof(uint64_t));
     detector->scores = lent_make(&detector->lent_scores, BRINE_SCORES * sizeof(double));
+    detector_begin(detector, mode, lookahead);
+}
+
+void detector_begin(struct detector *detector, uint32_t mode, size_t lookahead)
+{
     EXPECT_NUMBER(brine_detector_fresh(64, 48, 8, lookahead, mode, 0, UINT32_MAX, detector->numbers, BRINE_NUMBERS,
                                        detector->scores, BRINE_SCORES),
                   0);
@@ -59,6 +64,17 @@ bool detector_kept(const struct detector *detector)
         && memcmp(n->kept + numbers, n->whole + numbers, sizeof n->whole - numbers) == 0
         && memcmp(s->kept, s->whole, GUARD) == 0
         && memcmp(s->kept + past, s->whole + past, sizeof s->whole - past) == 0;
+}
+
+bool same_state(const uint64_t *numbers, const double *scores, const uint64_t *numbers2, const double *scores2)
+{
+    for (size_t i = 0; i < BRINE_NUMBERS; i++)
+        if (i != FIRST && i != RELEASE && numbers[i] != numbers2[i])
+            return false;
+    for (size_t i = 0; i < BRINE_SCORE_DOUBLES * numbers[COUNT]; i++)
+        if (!same_double(scores[i], scores2[i]))
+            return false;
+    return true;
 }
 
 double detector_score(const struct detector *detector, size_t entry, size_t number)

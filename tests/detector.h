@@ -32,6 +32,9 @@ struct step {
 /* A fresh detector for frames of 64 × 48, min 0 and max 2^32 - 1. Its scores are rubbish, as none is in use. */
 void detector_make(struct detector *detector, uint32_t mode, size_t lookahead);
 
+/* The same in places that are there already, whatever they hold. */
+void detector_begin(struct detector *detector, uint32_t mode, size_t lookahead);
+
 /* A step with lists of the length that the set wants, all filled with one value each. */
 struct step step_of(size_t set, uint64_t frame, uint64_t previous, double inter, double importance, double threshold);
 
@@ -42,6 +45,9 @@ void detector_refuses(struct detector *detector, const struct step *step, int64_
 
 /* The guards and the places past the count are as they were before the last step. */
 bool detector_kept(const struct detector *detector);
+
+/* Two states are the same: all is equal but the first and the release number, and what lies past the count. */
+bool same_state(const uint64_t *numbers, const double *scores, const uint64_t *numbers2, const double *scores2);
 
 /* One number of one entry. */
 double detector_score(const struct detector *detector, size_t entry, size_t number);

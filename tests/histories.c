@@ -189,7 +189,8 @@ static void spoil_list(struct step *call, uint32_t mode)
 
 int64_t spoil(struct step *call, uint32_t mode, uint64_t last, size_t length)
 {
-    const uint32_t faults = one_in(2) ? 1u << draw(3) : 1 + draw(7); /* 1 the number, 2 the set, 4 a list */
+    /* 1 the number, 2 the set, 4 a list; None mode reads no list */
+    const uint32_t faults = mode == NONE ? 1 + draw(3) : one_in(2) ? 1u << draw(3) : 1 + draw(7);
     if (faults & 4)
         spoil_list(call, mode);
     if (faults & 2)

@@ -88,17 +88,9 @@ static bool accepts(struct history *history, const struct step *call)
     return EXPECT(history->answer >= 0 && history->answer <= 3) && EXPECT(others_kept(history));
 }
 
-/* All is equal but the first and the release number, and what lies past the count. */
 static bool same_states(void)
 {
-    const struct places *const a = &old.now, *const b = &fresh.now;
-    for (size_t i = 0; i < BRINE_NUMBERS; i++)
-        if (i != FIRST && i != RELEASE && a->numbers[i] != b->numbers[i])
-            return false;
-    for (size_t i = 0; i < BRINE_SCORE_DOUBLES * a->numbers[COUNT]; i++)
-        if (!same_double(a->scores[i], b->scores[i]))
-            return false;
-    return true;
+    return same_state(old.now.numbers, old.now.scores, fresh.now.numbers, fresh.now.scores);
 }
 
 /* Any number of refused calls, mostly none, where call n comes next. Their sets may be short, their lists another film's. */
@@ -254,7 +246,7 @@ static bool all_pairs(uint32_t of_mode)
     return EXPECT_NUMBER((int64_t)seen.firsts, PAIRS);
 }
 
-/* At the tenth call the release number is the fresh one's first number in both. */
+/* At the tenth call the release number is one below the fresh one's first number in both. */
 static void standard(void)
 {
     if (!all_pairs(STANDARD))
@@ -264,8 +256,8 @@ static void standard(void)
     EXPECT_NUMBER((int64_t)seen.releases, 0);
 }
 
-/* After four calls the fresh one lacks a score. At the fifth its release number is still its first number, and the old
-   one's is lower. */
+/* After four calls the fresh one lacks a score. At the fifth its release number is still one below its first number, and
+   the old one's is lower. */
 static void fast(void)
 {
     if (!all_pairs(FAST))

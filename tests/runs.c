@@ -97,7 +97,7 @@ static size_t run(uint32_t mode, size_t lookahead, size_t set, uint64_t a)
         const bool cut = cut_of(entries, stood, mode);
         if (!EXPECT_NUMBER(answer, cut ? 3 : 2))
             return cuts;
-        const uint64_t release = n > a + 9 ? n - 9 : a;
+        const uint64_t release = (n > a + 9 ? n - 9 : a) - 1;
         const uint64_t want[BRINE_NUMBERS] = {64, 48, 8, lookahead, mode, 0, UINT32_MAX, AHEAD, n, set, a, release, count};
         EXPECT(lent_holds(&detector.lent_numbers, want));
         EXPECT(detector_kept(&detector));
@@ -145,7 +145,7 @@ static void none_run(void)
         const struct step step = call(7, n, previous);
         const bool cut = n - previous >= 12;
         EXPECT_NUMBER(detector_step(&detector, &step), cut ? 1 : 0);
-        const uint64_t want[BRINE_NUMBERS] = {64, 48, 8, 5, NONE, 5, 12, 5, n, 7, 1, 1, 0};
+        const uint64_t want[BRINE_NUMBERS] = {64, 48, 8, 5, NONE, 5, 12, 5, n, 7, 1, 0, 0};
         EXPECT(lent_holds(&detector.lent_numbers, want));
         EXPECT(lent_same(&detector.lent_scores));
         previous = cut ? n : previous;
@@ -165,7 +165,7 @@ static void no_lookahead(void)
         EXPECT(detector_step(&detector, &step) >= 2);
         EXPECT_NUMBER((int64_t)detector.numbers[OFFSET], 4);
         EXPECT_NUMBER((int64_t)detector.numbers[COUNT], 5);
-        EXPECT_NUMBER((int64_t)detector.numbers[RELEASE], 1);
+        EXPECT_NUMBER((int64_t)detector.numbers[RELEASE], 0);
         EXPECT_DOUBLE(detector_score(&detector, 0, INTER), film.inter[n + 4]);
         EXPECT(detector_kept(&detector));
     }

@@ -238,7 +238,19 @@ static void carried(void)
     detector.numbers[MAX] = huge + 2;
     detector.numbers[FIRST] = huge + 3;
     EXPECT_NUMBER(detector_step(&detector, &step), 2);
-    const uint64_t want[BRINE_NUMBERS] = {64, 48, 8, huge, STANDARD, huge + 1, huge + 2, 5, 30, 7, huge + 3, huge + 3, 10};
+    const uint64_t want[BRINE_NUMBERS] = {64, 48, 8, huge, STANDARD, huge + 1, huge + 2, 5, 30, 7, huge + 3, huge + 2, 10};
+    EXPECT(lent_holds(&detector.lent_numbers, want));
+}
+
+/* The release number is not below 0, in a state too that no run comes to: its first number is 0. */
+static void release_at_0(void)
+{
+    const struct step step = step_of(7, 6, 0, 5, 3, 40);
+    running(STANDARD, 5);
+    detector.numbers[LAST] = 5;
+    detector.numbers[FIRST] = 0;
+    EXPECT_NUMBER(detector_step(&detector, &step), 2);
+    const uint64_t want[BRINE_NUMBERS] = {64, 48, 8, 5, STANDARD, 0, UINT32_MAX, 5, 6, 7, 0, 0, 10};
     EXPECT(lent_holds(&detector.lent_numbers, want));
 }
 
@@ -248,7 +260,7 @@ static void short_set(void)
     const struct step step = step_of(4, 30, 12, 5, 3, 40);
     running(STANDARD, 5);
     EXPECT_NUMBER(detector_step(&detector, &step), 0);
-    const uint64_t want[BRINE_NUMBERS] = {64, 48, 8, 5, STANDARD, 0, UINT32_MAX, 5, 30, 4, 20, 20, 10};
+    const uint64_t want[BRINE_NUMBERS] = {64, 48, 8, 5, STANDARD, 0, UINT32_MAX, 5, 30, 4, 20, 19, 10};
     EXPECT(lent_holds(&detector.lent_numbers, want));
     EXPECT(lent_same(&detector.lent_scores));
 }
@@ -265,6 +277,7 @@ const struct test step_tests[] = {
     {"step: what is accepted", accepted},
     {"step: the order of refusals", order},
     {"step: numbers carried exactly", carried},
+    {"step: the release number is not below 0", release_at_0},
     {"step: a short set", short_set},
     {0},
 };

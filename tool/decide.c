@@ -35,7 +35,7 @@ static enum status decide_film(const struct options *options, struct film *film)
         if (status != DONE)
             return status;
     }
-    report_start(&desk.report, options->csv);
+    report_start(&desk.report, options->csv, options->purge);
     const enum status status = drive(film, &costs, &options->settings, desk_take, &desk);
     costs_close(&costs);
     journal_close(&desk.journal);

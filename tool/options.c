@@ -82,13 +82,19 @@ static bool has_value(const char *word)
     return false;
 }
 
-/* One word that has no value: the film or --csv. */
+static enum status take_switch(bool *on)
+{
+    *on = true;
+    return DONE;
+}
+
+/* One word that has no value: the film, --csv or --purge. */
 static enum status take_word(struct options *options, const char *word)
 {
-    if (strcmp(word, "--csv") == 0) {
-        options->csv = true;
-        return DONE;
-    }
+    if (strcmp(word, "--csv") == 0)
+        return take_switch(&options->csv);
+    if (strcmp(word, "--purge") == 0)
+        return take_switch(&options->purge);
     if (word[0] == '-' && word[1] != '\0')
         return say_usage("decide has no option '%s'", word);
     if (options->film != NULL)

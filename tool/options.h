@@ -9,6 +9,7 @@ struct options {
     const char *inter;
     const char *log; /* NULL: none */
     bool csv;
+    bool purge; /* name the frames that may go */
     struct settings settings;
 };
 

@@ -9,18 +9,38 @@
 /* A film of so many frames is long; then progress is told every so many. */
 enum { LONG_FILM = 200, PROGRESS_EVERY = 50 };
 
-void report_start(struct report *report, bool csv)
+void report_start(struct report *report, bool csv, bool purge)
 {
-    *report = (struct report){.csv = csv, .watched = isatty(STDERR_FILENO) == 1};
+    *report = (struct report){.csv = csv, .purge = purge, .watched = isatty(STDERR_FILENO) == 1};
     columns_head(&report->page, csv);
-    page_add(&report->page, csv ? ",%s\n" : " %9s\n", "release");
+    page_add(&report->page, csv ? ",%s" : " %9s", "release");
+    if (purge)
+        page_add(&report->page, csv ? ",%s" : " %9s", "purge");
+    page_add(&report->page, "\n");
+}
+
+/* The film's frames that may go after this call and could not before, so that each is named once. */
+static void add_purge(struct report *report, const struct verdict *verdict)
+{
+    const char *between = report->csv ? "," : " ";
+    if (verdict->first)
+        report->kept = verdict->frame;
+    if (verdict->release <= report->kept)
+        page_add(&report->page, report->csv ? ",%s" : " %9s", report->csv ? "" : "-");
+    for (; report->kept < verdict->release; report->kept++) {
+        page_add(&report->page, report->csv ? "%s%" PRIu64 : "%s%9" PRIu64, between, report->kept);
+        between = " ";
+    }
 }
 
 enum status report_take(void *taker, const struct verdict *verdict)
 {
     struct report *report = taker;
     columns_add(&report->page, report->csv, verdict);
-    page_add(&report->page, report->csv ? ",%" PRIu64 "\n" : " %9" PRIu64 "\n", verdict->release);
+    page_add(&report->page, report->csv ? ",%" PRIu64 : " %9" PRIu64, verdict->release);
+    if (report->purge)
+        add_purge(report, verdict);
+    page_add(&report->page, "\n");
     report->frames++;
     report->cuts += verdict->cut && !verdict->first;
     if (report->watched && report->frames >= LONG_FILM && report->frames % PROGRESS_EVERY == 0) {
