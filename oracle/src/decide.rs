@@ -40,9 +40,9 @@ pub fn compare(seed: &str) -> bool {
     for (n, line) in lines.iter().enumerate() {
         let [.., ahead, mode, _, _] = film.settings;
         let set = (count + 1 - n).min(ahead as usize + 2);
-        if n > 0 {
-            let late = set >= 7 && ahead >= 5 && mode != 0;
-            release = if late { n.saturating_sub(9).max(1) } else { release.max(1) };
+        // The first call is that of frame 1, so the number starts as 1, less one. Other calls keep it.
+        if n > 0 && set >= 7 && ahead >= 5 && mode != 0 {
+            release = n.saturating_sub(9).max(1) - 1;
         }
         let cut = found.scene_changes.contains(&n);
         let due = found.scores.get(&n).map(score);

@@ -1,5 +1,5 @@
-//! Document 01's detector as a program, in its own order and words. It says which refusal is due, and what the crate's
-//! answer should be; where the two differ the oracle says so.
+//! Document 01's detector as a program, in its own order and words, with document 02's release number. It says which
+//! refusal is due, and what the crate's answer should be; where the two differ the oracle says so.
 pub use crate::sizes::{COUNT, FIRST, LAST, LENGTH, NUMBERS, OFFSET, RELEASE, ROOM, SCORE, SCORES, SET_LIMIT};
 
 pub const NONE: u64 = 0;
@@ -136,18 +136,24 @@ pub fn step_fault(lengths: (u64, u64), s: &State, c: &Call) -> u32 {
     if list_fault(s.mode(), c) { 10 } else { 0 }
 }
 
+/// From document 01's release number to document 02's: "one less than document 01 says, but not below 0", since the first
+/// pair that is still needed has its left frame one before.
+fn one_less(release: u64) -> u64 {
+    release.saturating_sub(1)
+}
+
 /// What an accepted call answers (bit 0: a cut; bit 1: a score), and the state after it.
 pub fn step(s: &State, c: &Call) -> (i64, State) {
     let mut next = s.clone();
     let n = c.frame;
     if s.numbers[LAST] == 0 {
         next.numbers[FIRST] = n;
-        next.numbers[RELEASE] = n;
+        next.numbers[RELEASE] = one_less(n);
     }
     next.numbers[LAST] = n;
     next.numbers[LENGTH] = c.set;
     if c.set >= 7 && s.ahead() == 5 && s.mode() != NONE {
-        next.numbers[RELEASE] = next.numbers[FIRST].max(n.saturating_sub(9));
+        next.numbers[RELEASE] = one_less(next.numbers[FIRST].max(n.saturating_sub(9)));
     }
     let answer = rules(s, c, &mut next);
     (answer, next)
