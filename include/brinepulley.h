@@ -135,7 +135,7 @@ enum brine_number {
     BRINE_LAST_NUMBER,    /* the frame number and the set length of the last accepted call; 0 before any */
     BRINE_LAST_LENGTH,
     BRINE_FIRST_NUMBER,   /* the frame number of the first accepted call; 0 before any */
-    BRINE_RELEASE_NUMBER, /* no frame numbered below it is looked at again, in a restart neither: these may be purged */
+    BRINE_RELEASE_NUMBER, /* no frame numbered below it is looked at again, not in a restart either; 0 before any call */
     BRINE_COUNT           /* how many scores there are, from the front of `scores` on */
 };
 
@@ -165,10 +165,11 @@ int64_t brine_detector_fresh(size_t width, size_t height, uint32_t depth, size_t
  * Returns what was decided:
  *   0  no cut and no score     1  a cut without a score     2  no cut, with a score     3  a cut, with a score
  * With a score, it is score numbers[BRINE_OFFSET].
- * After the call frames numbered below numbers[BRINE_RELEASE_NUMBER] may be purged. A restart needs none of them: a fresh
- * detector of the same settings that is given the accepted calls again, from the one numbered one above the release number to
- * the last, ends in this state, BRINE_FIRST_NUMBER apart. Call n looks at the frames n - 1 to n + set_len - 2, so every frame
- * that these calls and all later ones look at is numbered at or above the release number.
+ * After the call the detector needs no frame numbered below numbers[BRINE_RELEASE_NUMBER]: these may be purged, once what you
+ * write down of the call is safe. A restart needs none of them: a fresh detector of the same settings that is given the
+ * accepted calls again, from the one numbered one above the release number to the last, ends in this state,
+ * BRINE_FIRST_NUMBER apart. Call n looks at the frames n - 1 to n + set_len - 2, so every frame that these calls and all
+ * later ones look at is numbered at or above the release number.
  * Refusals:
  *   11, where a length is not the state's, or the settings are ones that `fresh` refuses, or the count is not below
  *       BRINE_ENTRIES (or above 10 with a lookahead of 5 or more), or the offset is not below the count (with no score: not 5

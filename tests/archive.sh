@@ -50,7 +50,8 @@ awk '/^## /{ in_it = /^## Quick start in C/ } in_it && /^    / { print substr($0
     sed '/^}/q' > "$room/quick.c"
 # shellcheck disable=SC2086 # words
 $COMPILER -std=c11 -Wall -Wextra -Werror -I"$build/include" $STATIC -o "$room/quick" "$room/quick.c" "$ARCHIVE" \
-    > "$room/log" 2>&1 && $RUN "$room/quick" > "$room/log" && grep -qx 'frame 5: 60, a cut' "$room/log"
+    > "$room/log" 2>&1 && $RUN "$room/quick" > "$room/log" && grep -qx 'frame 5: 60, a cut' "$room/log" &&
+    grep -qx 'frames below 5 may be purged' "$room/log"
 verdict "the quick start's program" $?
 
 # The recorder's loop of docs/FORMATS.md, as it stands there: run again over a torn rest it refuses the numbers that are there.

@@ -8,7 +8,7 @@
 
 #include <string.h>
 
-enum { FILMS = 4, SHORT_SET = 6, NEVER = 0 };
+enum { FILMS = 4, NEVER = 0 };
 
 /* How many frames of a film are left at its end. The last set of seven begins with the seventh last frame, and its call is
    about the next one. Ten below that is the release number. */
@@ -17,21 +17,25 @@ enum { LEFT = 16 };
 /* What a test must bring at the least, so that it can fail. It is less than half of what it brings: that is the number behind
    "of", the lowest one of the tests that have the floor. */
 enum {
-    LEAST_LATER = 500,    /* of 1,424 restarts from a later call than the run's first */
-    LEAST_AGAIN = 10000,  /* of 27,200 calls that are given again, */
-    LEAST_REFUSED = 4000, /* and of 9,096 refused calls among these: one that changed something would show */
-    LEAST_CUTS = 40,      /* of 95 cuts, */
-    LEAST_NO_CUTS = 500   /* and of 1,370 calls with a score and no cut: the answers are not all the same */
+    LEAST_LATER = 400,    /* of 1,000 restarts from a later call than the run's first, */
+    LEAST_EARLY = 300,    /* and of 872 from an earlier one than they must, where frames are wiped late */
+    LEAST_AGAIN = 5000,   /* of 13,844 calls that are given again, */
+    LEAST_REFUSED = 2000, /* and of 4,563 refused calls among these: one that changed something would show */
+    LEAST_CUTS = 25,      /* of 56 cuts, */
+    LEAST_NO_CUTS = 500   /* and of 1,024 calls with a score and no cut: the answers are not all the same */
 };
 
-/* A run. Its sets are those of the command's driver: lookahead + 2 frames, 16 at the most, fewer at the film's end. */
+/* A run. */
 struct plan {
     uint32_t mode;
     size_t lookahead;
     size_t frames;       /* of the film */
     uint64_t first;      /* the number of its first frame: the first call is about the next one */
-    uint64_t short_from; /* from this call on no set has more than six frames; NEVER */
+    size_t set;          /* frames in a set, fewer at the film's end; 0: lookahead + 2, 16 at the most, as in the command */
+    uint64_t short_from; /* from this call on no set has more frames than .. ; NEVER */
+    size_t short_set;    /* .. this */
     uint64_t max;        /* the largest distance of two keyframes; 0 for 2^32 - 1 */
+    uint64_t every;      /* frames are wiped after every so many calls; 0: after each */
 };
 
 struct recorder {
@@ -48,6 +52,7 @@ static uint64_t previous[CARD_FRAMES + 1]; /* of each call, from the first frame
 static struct {
     size_t wiped;   /* frames */
     size_t later;   /* restarts from a later call than the run's first */
+    size_t early;   /* restarts from an earlier call than they must */
     size_t again;   /* calls that were given again */
     size_t refused; /* refused ones among these */
     size_t cuts, no_cuts;
@@ -56,9 +61,11 @@ static struct {
 static size_t set_of(const struct plan *plan, uint64_t n)
 {
     const uint64_t left = plan->first + plan->frames - (n - 1);
-    size_t set = plan->lookahead < BRINE_SET_LIMIT - 2 ? plan->lookahead + 2 : BRINE_SET_LIMIT;
-    if (plan->short_from != NEVER && n >= plan->short_from && set > SHORT_SET)
-        set = SHORT_SET;
+    size_t set = plan->set;
+    if (set == 0)
+        set = plan->lookahead < BRINE_SET_LIMIT - 2 ? plan->lookahead + 2 : BRINE_SET_LIMIT;
+    if (plan->short_from != NEVER && n >= plan->short_from && set > plan->short_set)
+        set = plan->short_set;
     return left < set ? (size_t)left : set;
 }
 
@@ -121,8 +128,7 @@ static void refused_calls(const struct plan *plan, const struct step *good)
     }
 }
 
-/* What the card has makes the state again: its first frame is the one that the release number names. The answers are thrown
-   away. */
+/* What the card has makes the state again, from its oldest frame on. The answers are thrown away. */
 static bool restart(const struct plan *plan, uint64_t last)
 {
     struct card *const card = &forgetful.card;
@@ -135,7 +141,18 @@ static bool restart(const struct plan *plan, uint64_t last)
             return false;
     }
     seen.later += card->from > plan->first;
+    seen.early += card->from < steady.detector.numbers[RELEASE];
     return both_same();
+}
+
+/* Frames below the release number are wiped, at once or some calls later. */
+static bool purge(const struct plan *plan, uint64_t n)
+{
+    const uint64_t release = forgetful.detector.numbers[RELEASE];
+    if (plan->every != 0 && n % plan->every != 0)
+        return EXPECT(forgetful.card.from <= release);
+    seen.wiped += card_wipe(&forgetful.card, release);
+    return EXPECT_NUMBER((int64_t)forgetful.card.from, (int64_t)release);
 }
 
 /* Both recorders over one film, up to the first call that fails. */
@@ -151,8 +168,7 @@ static bool run(const struct plan *plan, uint64_t seed)
     begin(&steady, plan);
     begin(&forgetful, plan);
     previous[1] = plan->first;
-    for (; n < end && both_decide(plan, n); n++) {
-        seen.wiped += card_wipe(&forgetful.card, forgetful.detector.numbers[RELEASE]);
+    for (; n < end && both_decide(plan, n) && purge(plan, n); n++) {
         forget();
         if (!restart(plan, n))
             break;
@@ -180,11 +196,11 @@ static bool all_runs(const struct plan *plans, size_t count)
 static void frames_go(uint32_t mode)
 {
     const struct plan plans[] = {
-        {mode, 5, CARD_FRAMES, 0, NEVER, 0},
-        {mode, 5, CARD_FRAMES, 999, NEVER, 0},
-        {mode, 9, CARD_FRAMES, 1, NEVER, 0},
-        {mode, 14, CARD_FRAMES, 0, NEVER, 0},
-        {mode, SIZE_MAX, CARD_FRAMES, ((uint64_t)1 << 32) - CARD_FRAMES, NEVER, 0},
+        {.mode = mode, .lookahead = 5, .frames = CARD_FRAMES},
+        {.mode = mode, .lookahead = 5, .frames = CARD_FRAMES, .first = 999},
+        {.mode = mode, .lookahead = 9, .frames = CARD_FRAMES, .first = 1},
+        {.mode = mode, .lookahead = 14, .frames = CARD_FRAMES},
+        {.mode = mode, .lookahead = SIZE_MAX, .frames = CARD_FRAMES, .first = ((uint64_t)1 << 32) - CARD_FRAMES},
     };
     const size_t count = sizeof plans / sizeof plans[0];
     if (!all_runs(plans, count))
@@ -205,14 +221,17 @@ static void fast(void)
     frames_go(FAST);
 }
 
-/* The sets get short at the sixtieth call, long before the film ends. From there on every frame stays. */
+/* The sets get short at the sixtieth call, long before the film ends: six frames, one, or none. From there on every frame
+   stays. */
 static void short_sets(void)
 {
     const struct plan plans[] = {
-        {STANDARD, 5, 100, 0, 60, 0},
-        {STANDARD, 14, 100, 40, 100, 0},
-        {FAST, 5, 100, 40, 100, 0},
-        {FAST, 14, 100, 0, 60, 0},
+        {.mode = STANDARD, .lookahead = 5, .frames = 100, .short_from = 60, .short_set = 6},
+        {.mode = STANDARD, .lookahead = 14, .frames = 100, .first = 40, .short_from = 100, .short_set = 6},
+        {.mode = FAST, .lookahead = 5, .frames = 100, .first = 40, .short_from = 100, .short_set = 6},
+        {.mode = FAST, .lookahead = 14, .frames = 100, .short_from = 60, .short_set = 6},
+        {.mode = STANDARD, .lookahead = 5, .frames = 100, .short_from = 60, .short_set = 1},
+        {.mode = FAST, .lookahead = 14, .frames = 100, .short_from = 60, .short_set = 0},
     };
     const size_t count = sizeof plans / sizeof plans[0];
     if (!all_runs(plans, count))
@@ -221,14 +240,38 @@ static void short_sets(void)
     EXPECT(seen.later >= LEAST_LATER);
 }
 
-/* A lookahead below 5, None mode, films and sets of fewer than seven frames: all calls are given again, and no frame goes. */
+/* A recorder that wipes its frames after every seventh call begins again earlier than it must, which is as good. */
+static void late(void)
+{
+    const struct plan plans[] = {
+        {.mode = STANDARD, .lookahead = 5, .frames = CARD_FRAMES, .every = 7},
+        {.mode = FAST, .lookahead = 9, .frames = CARD_FRAMES, .first = 999, .every = 7},
+    };
+    if (!all_runs(plans, sizeof plans / sizeof plans[0]))
+        return;
+    EXPECT(seen.later >= LEAST_LATER);
+    EXPECT(seen.early >= LEAST_EARLY);
+}
+
+/* A lookahead below 5, whatever the sets; None mode; films and sets of fewer than seven frames: all calls are given again, and
+   no frame goes. */
 static void no_frame_goes(void)
 {
     const struct plan plans[] = {
-        {STANDARD, 4, 60, 0, NEVER, 0}, {STANDARD, 0, 60, 999, NEVER, 0}, {FAST, 4, 60, 999, NEVER, 0},
-        {FAST, 1, 60, 0, NEVER, 0},     {NONE, 5, 60, 0, NEVER, 7},       {NONE, 14, 60, 999, NEVER, 7},
-        {STANDARD, 5, 60, 0, 1, 0},     {FAST, 14, 60, 0, 1, 0},          {STANDARD, 5, 6, 999, NEVER, 0},
-        {FAST, 5, 2, 0, NEVER, 0},      {STANDARD, 14, 16, 0, NEVER, 0},  {FAST, 5, 11, 999, NEVER, 0},
+        {.mode = STANDARD, .lookahead = 4, .frames = 60},
+        {.mode = STANDARD, .lookahead = 0, .frames = 60, .first = 999},
+        {.mode = STANDARD, .lookahead = 4, .frames = 60, .set = 7},
+        {.mode = FAST, .lookahead = 4, .frames = 60, .first = 999},
+        {.mode = FAST, .lookahead = 1, .frames = 60},
+        {.mode = FAST, .lookahead = 0, .frames = 60, .set = BRINE_SET_LIMIT},
+        {.mode = NONE, .lookahead = 5, .frames = 60, .max = 7},
+        {.mode = NONE, .lookahead = 14, .frames = 60, .first = 999, .max = 7},
+        {.mode = STANDARD, .lookahead = 5, .frames = 60, .short_from = 1, .short_set = 6},
+        {.mode = FAST, .lookahead = 14, .frames = 60, .short_from = 1, .short_set = 6},
+        {.mode = STANDARD, .lookahead = 5, .frames = 6, .first = 999},
+        {.mode = FAST, .lookahead = 5, .frames = 2},
+        {.mode = STANDARD, .lookahead = 14, .frames = 16},
+        {.mode = FAST, .lookahead = 5, .frames = 11, .first = 999},
     };
     if (!all_runs(plans, sizeof plans / sizeof plans[0]))
         return;
@@ -240,6 +283,7 @@ const struct test purge_tests[] = {
     {"purge: Standard, a restart after every call", standard},
     {"purge: Fast, a restart after every call", fast},
     {"purge: sets that get short before the film ends", short_sets},
+    {"purge: frames that are wiped late", late},
     {"purge: no frame goes, all calls are given again", no_frame_goes},
     {0},
 };

@@ -29,7 +29,7 @@ static const char help[] =
     "        --log        appends each score to a log, on the card before the next\n"
     "                     frame is decided on; the file is made if it is missing\n"
     "        --first      the number of the film's first frame (default 0)\n"
-    "        --purge      one more column: the film's frames that may go after this\n"
+    "        --purge      one more column: the film's frame that may go after this\n"
     "                     call and could not before\n"
     "        --csv        for machines: commas, every digit, nothing else\n"
     "\n"

@@ -19,18 +19,16 @@ void report_start(struct report *report, bool csv, bool purge)
     page_add(&report->page, "\n");
 }
 
-/* The film's frames that may go after this call and could not before, so that each is named once. */
+/* The film's frame that may go after this call and could not before. From the first call on the release number rises by one
+   at the most, so each frame is named once. */
 static void add_purge(struct report *report, const struct verdict *verdict)
 {
-    const char *between = report->csv ? "," : " ";
     if (verdict->first)
         report->kept = verdict->frame;
-    if (verdict->release <= report->kept)
+    if (report->kept < verdict->release)
+        page_add(&report->page, report->csv ? ",%" PRIu64 : " %9" PRIu64, report->kept++);
+    else
         page_add(&report->page, report->csv ? ",%s" : " %9s", report->csv ? "" : "-");
-    for (; report->kept < verdict->release; report->kept++) {
-        page_add(&report->page, report->csv ? "%s%" PRIu64 : "%s%9" PRIu64, between, report->kept);
-        between = " ";
-    }
 }
 
 enum status report_take(void *taker, const struct verdict *verdict)

@@ -9,8 +9,8 @@ struct report {
     bool csv;
     bool purge;    /* there is a column for the frames that may go */
     uint64_t kept; /* the film's frames below it were named there */
-    bool watched; /* someone watches the standard error: tell of progress */
-    bool told;    /* a progress line stands there */
+    bool watched;  /* someone watches the standard error: tell of progress */
+    bool told;     /* a progress line stands there */
     uint64_t frames;
     uint64_t cuts; /* the first frame's not counted */
 };

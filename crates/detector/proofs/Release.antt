@@ -37,7 +37,7 @@ longer g long longest h e =
 pub record Numbered (g : Settings) (a m : ℕ) (s : View) : Type 0 where
   pub settings : s .settings ≡ g
   pub begun : s .lastNumber ≡ 0 → ⊥
-  pub some : a ≡ 0 → ⊥
+  pub positive : a ≡ 0 → ⊥
   pub first : s .firstNumber ≡ a
   -- one above it is the first call, or the tenth from the end of those that move it
   pub above : suc (s .release) ≡ a + (m - suc releaseReach)
@@ -61,7 +61,7 @@ module _ (g : Settings) (c : Call) (s : View) (is : s .settings ≡ g) (e : step
       by true t = record {
         settings = w .settings ∙ is;
         begun = λ z. f .begun (sym (w .number) ∙ z);
-        some = some;
+        positive = some;
         first = w .first ∙ first;
         above = rw (w .release, is, t, first) (omega (arith, positive a some, all t));
         within = rw (w .number, t) (omega arith);
@@ -70,7 +70,7 @@ module _ (g : Settings) (c : Call) (s : View) (is : s .settings ≡ g) (e : step
       by false t = record {
         settings = w .settings ∙ is;
         begun = λ z. f .begun (sym (w .number) ∙ z);
-        some = some;
+        positive = some;
         first = w .first ∙ first;
         above = rw (w .release, is, t) (omega (arith, start));
         within = rw (w .number, t) (omega arith);
@@ -88,7 +88,7 @@ module _ (g : Settings) (c : Call) (s : View) (is : s .settings ≡ g) (e : step
       let was : eqb (s .lastNumber) 0 ≡ false = ne-eqb (s .lastNumber) 0 (n .begun) in
       let next = f .inTurn (n .begun) in
       let some = positive (c .number) (f .begun) in
-      now a m (n .some) (rw was (n .first)) (rw was (omega (arith, n .above))) (omega (arith, n .within))
+      now a m (n .positive) (rw was (n .first)) (rw was (omega (arith, n .above))) (omega (arith, n .within))
       (λ t. omega (arith, n .all (longer g (c .setLength) (s .lastLength) (f .shrinks (n .begun)) t)))
 
 -- after any calls
@@ -116,13 +116,13 @@ numbered g c cs t =
 pub record Known (g : Settings) (s : View) : Type 0 where
   pub settings : s .settings ≡ g
   pub none : s .lastNumber ≡ 0 → s .release ≡ 0
-  pub some : (s .lastNumber ≡ 0 → ⊥) → (a : ℕ) × (m : ℕ) × Numbered g a m s
+  pub begun : (s .lastNumber ≡ 0 → ⊥) → (a : ℕ) × (m : ℕ) × Numbered g a m s
 
 pub fresh-known : (g : Settings) → Known g (freshView g)
-fresh-known g = record { settings = refl; none = λ z. refl; some = λ h. absurd (h refl) }
+fresh-known g = record { settings = refl; none = λ z. refl; begun = λ h. absurd (h refl) }
 
 numbered-known : (g : Settings) (a m : ℕ) (s : View) → Numbered g a m s → Known g s
-numbered-known g a m s n = record { settings = n .settings; none = λ z. absurd (n .begun z); some = λ h. (a, m, n) }
+numbered-known g a m s n = record { settings = n .settings; none = λ z. absurd (n .begun z); begun = λ h. (a, m, n) }
 
 -- each call is numbered above the release number before it, and does not lower it
 module _ (g : Settings) (s : View) (c : Call) (k : Known g s) (e : stepFault s c ≡ 0) where
@@ -142,7 +142,7 @@ module _ (g : Settings) (s : View) (c : Call) (k : Known g s) (e : stepFault s c
           (numbered-known g _ _ _ now, omega (arith, n, k .none z), omega (arith, k .none z))
       by false t =
           let h = eqb-false _ _ t in
-          let was = k .some h in
+          let was = k .begun h in
           let now = further g c s (k .settings) e (was .0) (was .1) (was .2) in (
             numbered-known g _ _ _ now,
             omega (arith, n, fine s c e .inTurn h, was .2 .within, was .2 .above),

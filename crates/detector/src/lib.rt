@@ -22,7 +22,7 @@ pub enum Decision {
     Scored(bool, ScenecutResult),
 }
 
-// The set length from which a call moves the release number, and how many calls behind it lies the first that is still needed.
+// The set length from which a call moves the release number, and how many calls before that call the first one lies that a restart needs.
 const RELEASE_LENGTH: usize = 7;
 
 const RELEASE_REACH: u64 = 9;
@@ -80,7 +80,7 @@ fn larger(a: u64, b: u64) -> u64
     if a <= b { b } else { a }
 }
 
-// So far back from n; 0 where there is nothing so far back.
+// n − by, but not below 0.
 fn back(n: u64, by: u64) -> u64
     ensures { λ r. ⌜ r ≡ n - by ⌝ }
 {

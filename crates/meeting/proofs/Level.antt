@@ -47,8 +47,8 @@ module _ (g : Settings) (s t : View) (c d : Call) (l : Level g s t) (same : asRe
 
     gone : (s .lastNumber ≡ 0 → ⊥) → Same
     gone h =
-        let was = l .known .some h in
-        let is = l .also .some (λ z. h (last ∙ z)) in
+        let was = l .known .begun h in
+        let is = l .also .begun (λ z. h (last ∙ z)) in
         let x = further g c s (l .known .settings) e (was .0) (was .1) (was .2) in
         let y = further g d t (l .also .settings) f (is .0) (is .1) (is .2) in
         by (releases g (c .setLength)) refl was is x y

@@ -6,20 +6,13 @@ use mathlib.Core.Bool.{Bool, true, false}
 use mathlib.Core.List.{List, [], _∷_, _++_, map, nil≢cons, head-eq-of-cons-eq, tail-eq-of-cons-eq}
 use Prim.Native.Nat.{ℕ, zero, suc, _+_, _≤_}
 use native.Mathlib.Omega.{arith}
-use borrow.Author.Tests.{eqb-true}
-use lib.Dec.{eqb}
 use lib.ListN.{length, take, drop, take-append-drop, length-take}
 use lib.Seq.{drop-drop}
 use Rattle.settings.specs.declared.Settings.{Settings}
 use Rattle.settings.specs.Settings.{normalLookahead, isNone, isFast, fastThreshold}
 use Rattle.state.specs.State.{Call}
-use Rattle.state.specs.Refusals.{stepFault}
-use Rattle.state.proofs.Tests.{and-both}
-use Rattle.state.proofs.Fine.{fine}
 use Rattle.detector.specs.Fresh.{freshView}
-use Rattle.detector.specs.Step.{stepOf}
 use Rattle.detector.specs.Runs.{stateAfter, allAccepted, compared}
-use Rattle.detector.proofs.Cases.{leaves}
 use Rattle.detector.proofs.Account.{after-parts, accepted-parts, settings-after}
 use Rattle.meeting.specs.Calls.{asRead, Agree, All, OneMeasurement, fullSet, FullSets}
 use Rattle.meeting.specs.Meeting.{callsToMeet, Restart}
@@ -28,7 +21,7 @@ use Rattle.meeting.proofs.ClosedForm.{span, keeps, Item, itemAt, firstI
 use Rattle.meeting.proofs.Closed.{pairsNeeded, local}
 use Rattle.meeting.proofs.AsRead.{same-item, same-scored, same-last, same-after, same-full, same-agree}
 use Rattle.meeting.proofs.Settle.{calls-closed}
-use Rattle.meeting.proofs.Newest.{scored-parts, scored-front, scored-long, take-behind, InTurn, in-turn, Agreed, agreed, newest-same}
+use Rattle.meeting.proofs.Newest.{scored-parts, scored-front, scored-long, take-behind, InTurn, run-turn, Agreed, agreed, newest-same}
 
 -- ---- the states meet
 
@@ -55,7 +48,7 @@ last-parts x [] y ys = refl
 last-parts x (c ∷ xs) y ys = last-parts c xs y ys
 
 turn-parts : (x : Call) (xs : List Call) (y : Call) (ys : List Call) → InTurn x (xs ++ (y ∷ ys)) → InTurn x xs × (y .number ≡ suc (lastCall x xs .number))
-turn-parts x [] y ys t = (tt, t .0)
+turn-parts x [] y ys t = (tt, t .0 .0)
 turn-parts x (c ∷ xs) y ys t =
     let r = turn-parts c xs y ys (t .1) in
     ((t .0, r .0), r .1)
@@ -96,12 +89,9 @@ module _ (g : Settings) (mode : isNone g ≡ false) (x y z : Call) (xs ys zs : L
         → allAccepted (freshView g) (x ∷ old) ≡ true → allAccepted (freshView g) (z ∷ zs) ≡ true
         → All (λ (c : Call). Agreed g c z) (x ∷ old) → FullSets (x ∷ old) → FullSets (z ∷ zs) → callsToMeet (isFast g) ≤ length (z ∷ zs)
         → compared (stateAfter (freshView g) (x ∷ old)) ≡ compared (stateAfter (freshView g) (z ∷ zs))
-    unfolding allAccepted
     states-meet ahead old split t u agree full sizes h =
         let accepted = rw split at t in
-        let begins = and-both (eqb (stepFault (freshView g) x) 0) _ accepted in
-        let fault = eqb-true _ _ (begins .0) in
-        let turn = in-turn (stepOf (freshView g) x .state) x (xs ++ (y ∷ ys)) (leaves (freshView g) x fault .number) (fine (freshView g) x fault .begun) (begins .1) in
+        let turn = run-turn g x (xs ++ (y ∷ ys)) accepted in
         let before = all-parts (λ (c : Call). Agreed g c z) (x ∷ xs) (y ∷ ys) (rw split at agree) .0 in
         let deques : closedDeque g oldPairs ≡ closedDeque g newPairs = same-deque g oldPairs newPairs (pairs-meet turn before h) in
         let calls : asRead g (lastCall x (xs ++ (y ∷ ys))) ≡ asRead g (lastCall z zs)

@@ -5,39 +5,18 @@ use mathlib.Core.Bool.{Bool, true, false, not, true≢false}
 use mathlib.Core.List.{List, [], _∷_, map, nil≢cons, head-eq-of-cons-eq, tail-eq-of-cons-eq}
 use Prim.Native.Nat.{ℕ, zero, suc, _+_, _-_, _≤_, _<_}
 use native.Mathlib.Omega.{arith}
-use borrow.Author.Tests.{eqb-true, leb-true, not-true}
+use borrow.Author.Tests.{leb-true, not-true}
 use lib.Dec.{eqb, leb}
 use lib.ListN.{length, take, drop}
 use lib.Seq.{take-nil, drop-nil}
 use Rattle.settings.specs.declared.Settings.{Settings}
 use Rattle.settings.specs.Settings.{normalLookahead, lookaheadOffset, isNone}
-use Rattle.state.specs.State.{View, Call}
-use Rattle.state.specs.Refusals.{stepFault}
+use Rattle.state.specs.State.{Call}
 use Rattle.state.proofs.Tests.{and-both}
-use Rattle.state.proofs.Fine.{fine}
 use Rattle.detector.specs.Rules.{releaseLength, releases}
-use Rattle.detector.specs.Step.{stepOf}
-use Rattle.detector.specs.Runs.{allAccepted}
-use Rattle.detector.proofs.Cases.{leaves}
 use Rattle.detector.proofs.Release.{moves, moving, longer}
 use Rattle.meeting.specs.Calls.{asRead, FullSets}
-
--- ---- accepted sets do not grow
-
-abbrev pub NoGrowth : Call → List Call → Type 0
-NoGrowth b [] = Unit {0}
-NoGrowth b (c ∷ cs) = (c .setLength ≤ b .setLength) × NoGrowth c cs
-
-pub no-growth : (s : View) (b : Call) (cs : List Call) → s .lastNumber ≡ b .number → s .lastLength ≡ b .setLength → (b .number ≡ 0 → ⊥)
-    → allAccepted s cs ≡ true → NoGrowth b cs
-unfolding allAccepted
-no-growth s b [] e k h t = tt
-no-growth s b (c ∷ cs) e k h t =
-    let u = and-both (eqb (stepFault s c) 0) _ t in
-    let fault = eqb-true _ _ (u .0) in
-    let f = fine s c fault in
-    let w = leaves s c fault in
-    (omega (arith, f .shrinks (λ z. h (sym e ∙ z))), no-growth (stepOf s c .state) c cs (w .number) (w .size) (f .begun) (u .1))
+use Rattle.meeting.proofs.Newest.{InTurn}
 
 -- ---- the settings under which a call moves the release number
 
@@ -62,17 +41,17 @@ module _ (g : Settings) where
       by false e h = rw e (omega arith)
 
   -- behind a call that does not move it, none does
-  none-moves : (b : Call) (cs : List Call) → NoGrowth b cs → releases g (b .setLength) ≡ false → moving g cs ≡ 0
+  none-moves : (b : Call) (cs : List Call) → InTurn b cs → releases g (b .setLength) ≡ false → moving g cs ≡ 0
   unfolding moving
   none-moves b [] w e = refl
   none-moves b (c ∷ cs) w e = by (releases g (c .setLength)) refl (none-moves c cs (w .1))
     where
       by : (x : Bool) → releases g (c .setLength) ≡ x → (releases g (c .setLength) ≡ false → moving g cs ≡ 0) → moves g c + moving g cs ≡ 0
-      by true t rest = absurd (true≢false (sym (longer g (c .setLength) (b .setLength) (w .0) t) ∙ e))
+      by true t rest = absurd (true≢false (sym (longer g (c .setLength) (b .setLength) (w .0 .1) t) ∙ e))
       by false t rest = rw (t, rest t)
 
   -- so where one does, the first does
-  pub first-moves : (b : Call) (cs : List Call) → NoGrowth b cs → 0 < moving g (b ∷ cs) → releases g (b .setLength) ≡ true
+  pub first-moves : (b : Call) (cs : List Call) → InTurn b cs → 0 < moving g (b ∷ cs) → releases g (b .setLength) ≡ true
   unfolding moving
   first-moves b cs w h = by (releases g (b .setLength)) refl
     where
@@ -83,7 +62,7 @@ module _ (g : Settings) where
           absurd (omega arith)
 
   -- the first ones have full sets
-  pub first-full : (n : ℕ) (b : Call) (cs : List Call) → NoGrowth b cs → n ≤ moving g (b ∷ cs) → FullSets (take n (b ∷ cs))
+  pub first-full : (n : ℕ) (b : Call) (cs : List Call) → InTurn b cs → n ≤ moving g (b ∷ cs) → FullSets (take n (b ∷ cs))
   unfolding moving
   first-full zero b cs w h = tt
   first-full (suc n) b [] w h =
@@ -95,7 +74,7 @@ module _ (g : Settings) where
       (leb-true releaseLength (b .setLength) (and-both (leb releaseLength (b .setLength)) _ t .0), first-full n c cs (w .1) (omega arith))
 
   -- of a run's later calls as many as are left
-  pub moving-drop : (d : ℕ) (b : Call) (cs : List Call) → NoGrowth b cs → moving g (drop d (b ∷ cs)) ≡ moving g (b ∷ cs) - d
+  pub moving-drop : (d : ℕ) (b : Call) (cs : List Call) → InTurn b cs → moving g (drop d (b ∷ cs)) ≡ moving g (b ∷ cs) - d
   unfolding moving
   moving-drop zero b cs w = omega arith
   moving-drop (suc d) b [] w =

@@ -15,6 +15,7 @@ use Rattle.state.specs.State.{View, Call}
 use Rattle.state.specs.Refusals.{stepFault}
 use Rattle.state.proofs.Tests.{and-both, positive}
 use Rattle.state.proofs.Fine.{fine}
+use Rattle.detector.specs.Fresh.{freshView}
 use Rattle.detector.specs.Step.{itemIn, stepOf}
 use Rattle.detector.specs.Runs.{allAccepted}
 use Rattle.detector.proofs.Cases.{leaves}
@@ -52,22 +53,36 @@ take-behind m r [] l k h e =
 take-behind zero r (i ∷ front) l k h e = refl
 take-behind (suc m) r (i ∷ front) l k h e = ap (λ (x : List Item). i ∷ x) (take-behind m r front l k (omega arith) e)
 
--- ---- accepted calls are numbered one after the other
+-- ---- accepted calls are numbered one after the other, and their sets do not grow
+
+abbrev pub Next : Call → Call → Type 0
+Next b c = (c .number ≡ suc (b .number)) × (c .setLength ≤ b .setLength)
 
 abbrev pub InTurn : Call → List Call → Type 0
 InTurn b [] = Unit {0}
-InTurn b (c ∷ cs) = (c .number ≡ suc (b .number)) × InTurn c cs
+InTurn b (c ∷ cs) = Next b c × InTurn c cs
 
-pub in-turn : (s : View) (b : Call) (cs : List Call) → s .lastNumber ≡ b .number → (b .number ≡ 0 → ⊥) → allAccepted s cs ≡ true → InTurn b cs
+in-turn : (s : View) (b : Call) (cs : List Call) → s .lastNumber ≡ b .number → s .lastLength ≡ b .setLength → (b .number ≡ 0 → ⊥)
+    → allAccepted s cs ≡ true → InTurn b cs
 unfolding allAccepted
-in-turn s b [] e h t = tt
-in-turn s b (c ∷ cs) e h t =
+in-turn s b [] e k h t = tt
+in-turn s b (c ∷ cs) e k h t =
     let u = and-both (eqb (stepFault s c) 0) _ t in
     let f = fine s c (eqb-true _ _ (u .0)) in
     let w = leaves s c (eqb-true _ _ (u .0)) in
     let some = f .begun in
     let next : c .number ≡ suc (b .number) = omega (arith, f .inTurn (λ z. h (sym e ∙ z)), positive (c .number) some) in
-    (next, in-turn (stepOf s c .state) c cs (w .number) some (u .1))
+    let size : c .setLength ≤ b .setLength = omega (arith, f .shrinks (λ z. h (sym e ∙ z))) in
+    ((next, size), in-turn (stepOf s c .state) c cs (w .number) (w .size) some (u .1))
+
+-- .. from a fresh detector on
+pub run-turn : (g : Settings) (x : Call) (xs : List Call) → allAccepted (freshView g) (x ∷ xs) ≡ true → InTurn x xs
+unfolding allAccepted
+run-turn g x xs t =
+    let u = and-both (eqb (stepFault (freshView g) x) 0) _ t in
+    let fault = eqb-true _ _ (u .0) in
+    let w = leaves (freshView g) x fault in
+    in-turn (stepOf (freshView g) x .state) x xs (w .number) (w .size) (fine (freshView g) x fault .begun) (u .1)
 
 -- ---- the pairs of calls in turn, held to those of one call
 
@@ -102,7 +117,7 @@ module _ (g : Settings) (z : Call) where
   unfolding scoredThen
   then-lined b past [] l t a = l
   then-lined b past (c ∷ cs) l t a =
-      let e : b .number + suc span ≡ c .number + span = omega (arith, t .0) in
+      let e : b .number + suc span ≡ c .number + span = omega (arith, t .0 .0) in
       then-lined c (itemAt g c span ∷ past) cs
       (omega arith, same-at c span (a .0) (omega arith), subst (λ (q : ℕ). Lined q past) e l) (t .1) (a .1)
 

@@ -28,13 +28,12 @@ use Rattle.brinepulley.specs.Histories.{inC}
 use Rattle.brinepulley.proofs.Histories.{c-shows}
 use Rattle.meeting.specs.Calls.{asRead, All}
 use Rattle.meeting.specs.Meeting.{SameState}
-use Rattle.meeting.specs.Replay.{callsFrom, restartCall, Again, LooksAt, Replay, ReplayProved}
+use Rattle.meeting.specs.Replay.{callsFrom, firstAgain, Again, Replay, ReplayProved}
 use Rattle.meeting.proofs.Lists.{all-so, all-join, all-any}
-use Rattle.meeting.proofs.Moving.{settings-move, first-moves}
 use Rattle.meeting.proofs.Onwards.{left, sound, stay}
 use Rattle.meeting.proofs.Takes.{GoesOn, takes-behind, takes-all}
 use Rattle.meeting.proofs.Level.{Level, level-step}
-use Rattle.meeting.proofs.Again.{run-is, left-out, calls-are, calls-replay}
+use Rattle.meeting.proofs.Again.{left-out, calls-are, scoring, calls-replay}
 
 -- ---- the numbers of calls
 
@@ -85,13 +84,13 @@ module _ (D : Detector) (S : Shows D) (g : Settings) where
       }
 
   -- the fresh one accepts these calls: they are all of the run, or A is 5 and no call gets 9
-  accepts-again : (q : ℕ) (old new : History D g) → q ≤ restartCall (end old .release)
+  accepts-again : (q : ℕ) (old new : History D g) → q ≤ firstAgain (end old .release)
       → map (asRead g) (callsFrom q (acceptedIn D (old .made))) ≡ map (asRead g) (callsIn D (new .made))
       → acceptedIn D (new .made) ≡ callsIn D (new .made)
   accepts-again q old new h same =
-      by (acceptedIn D (old .made)) (left D S g old .1) (subst (λ (v : View). q ≤ restartCall (v .release)) (left D S g old .0) h) same
+      by (acceptedIn D (old .made)) (left D S g old .1) (subst (λ (v : View). q ≤ firstAgain (v .release)) (left D S g old .0) h) same
     where
-      by : (cs : List Call) → allAccepted (freshView g) cs ≡ true → q ≤ restartCall (stateAfter (freshView g) cs .release)
+      by : (cs : List Call) → allAccepted (freshView g) cs ≡ true → q ≤ firstAgain (stateAfter (freshView g) cs .release)
           → map (asRead g) (callsFrom q cs) ≡ map (asRead g) (callsIn D (new .made)) → acceptedIn D (new .made) ≡ callsIn D (new .made)
       by [] t h same = takes-all D S g [] new t same
       by (x ∷ xs) t h same = part (q - x .number) refl
@@ -103,8 +102,7 @@ module _ (D : Detector) (S : Shows D) (g : Settings) where
           part zero e = takes-all D S g (x ∷ xs) new t (rw e at again)
           part (suc d) e =
               let few = left-out g x xs t q h in
-              let moved = settings-move g (x .setLength) (first-moves g x xs (run-is g x xs t .growth) (omega arith)) in
-              let ahead : leb normalLookahead (g .«lookahead_distance») ≡ true = le-leb _ _ (moved .1) in
+              let ahead : leb normalLookahead (g .«lookahead_distance») ≡ true = le-leb _ _ (scoring g x xs t (q - x .number) few (omega arith) .1) in
               let five : lookaheadOffset g ≡ normalLookahead = rw ahead in
               takes-behind D S g (x ∷ xs) (q - x .number) new t
               (all-any (GoesOn g) (λ c one none. omega (arith, five, none)) (drop (q - x .number) (x ∷ xs))) again
@@ -127,14 +125,14 @@ module _ (D : Detector) (S : Shows D) (Alike : D .Kept → D .Kept → Type 0)
       stayReplayed = λ g old new a us vs f h e.
           let w = stay D S g (Level g) (level-step g) _ _ us vs (sound D S g old) (sound D S g new) (leveled g old new a) f h e in
           (w .0, same g _ _ (sound-after D S _ us (sound D S g old) f) (sound-after D S _ vs (sound D S g new) h) (w .1));
-      acceptedAgain = λ g q old new h e. accepts-again D S g q old new (subst (λ (r : ℕ). q ≤ restartCall r) (reads _) h) e;
-      neverPurged = λ g run later f.
+      acceptedAgain = λ g q old new h e. accepts-again D S g q old new (subst (λ (r : ℕ). q ≤ firstAgain r) (reads _) h) e;
+      framesStay = λ g run later f.
           let r = release (keptAfter D (run .begun) (run .made)) in
           let w = history-leaves D S (keptAfter D (run .begun) (run .made)) later (sound D S g run) f in
           all-so (λ (c : Call). suc r ≤ c .number) _ (λ c h x l. omega (arith, l .0))
-          (callsFrom (restartCall r) (acceptedIn D (run .made)) ++ acceptedIn D later)
-          (all-join (λ (c : Call). suc r ≤ c .number) (callsFrom (restartCall r) (acceptedIn D (run .made))) (acceptedIn D later)
-          (above (restartCall r) (acceptedIn D (run .made)))
+          (callsFrom (firstAgain r) (acceptedIn D (run .made)) ++ acceptedIn D later)
+          (all-join (λ (c : Call). suc r ≤ c .number) (callsFrom (firstAgain r) (acceptedIn D (run .made))) (acceptedIn D later)
+          (above (firstAgain r) (acceptedIn D (run .made)))
           (later-above g r (end D S g run) (acceptedIn D later) (known D S g run) (omega (arith, reads (keptAfter D (run .begun) (run .made)))) (w .1)));
       neverFalls = λ g run later f.
           let k = keptAfter D (run .begun) (run .made) in

@@ -4,7 +4,7 @@
 -- Assumes nothing.
 use mathlib.Core.Path.{_≡_, refl, _∙_, ap}
 use mathlib.Core.List.{List, [], _∷_}
-use Prim.Native.Nat.{ℕ, zero, suc}
+use Prim.Native.Nat.{ℕ, zero, suc, _+_, _-_, _<_}
 use native.Mathlib.Omega.{arith}
 use lib.Ieee.{ofBits, ofInt, sub, mul, div, lt, le, eq}
 use Rattle.answer.specs.Refusal.{_orElse_}
@@ -31,7 +31,7 @@ use Rattle.lent.proofs.Histories.{places-show, places-make}
 use Rattle.brinepulley.specs.Histories.{inC}
 use Rattle.brinepulley.proofs.Histories.{c-shows, c-makes}
 use Rattle.meeting.specs.Meeting.{SameState}
-use Rattle.meeting.specs.Replay.{Again, SameButFirst, Replay}
+use Rattle.meeting.specs.Replay.{Again, LooksAt, SameButFirst, Replay}
 use Rattle.meeting.proofs.Lists.{all-join}
 use Rattle.meeting.proofs.AsRead.{OfFilm, film-agrees}
 use Rattle.meeting.proofs.Onwards.{left}
@@ -42,22 +42,22 @@ use Rattle.meeting.proofs.Witnesses.{whole, cost, successive, shortCall
 abbrev last : ℕ → Call
 last n = shortCall cost whole n
 
-abbrev oldStandard : List Call
-oldStandard = oldAccepted earlyStandard lateStandard last 6
+abbrev standardRun : List Call
+standardRun = oldAccepted earlyStandard lateStandard last 6
 
-abbrev newStandard : List Call
-newStandard = newAccepted lateStandard last 6
+abbrev standardAgain : List Call
+standardAgain = newAccepted lateStandard last 6
 
-abbrev oldInFast : List Call
-oldInFast = oldAccepted earlyFast oldFast last 6
+abbrev fastRun : List Call
+fastRun = oldAccepted earlyFast oldFast last 6
 
-abbrev newInFast : List Call
-newInFast = newAccepted newFast last 6
+abbrev fastAgain : List Call
+fastAgain = newAccepted newFast last 6
 
-accepted : ((acceptedAmong (freshView standard) (oldCalls earlyStandard lateStandard last 6) ≡ oldStandard)
-    × (acceptedAmong (freshView standard) (newCalls lateStandard last 6) ≡ newStandard))
-    × ((acceptedAmong (freshView fast) (oldCalls earlyFast oldFast last 6) ≡ oldInFast)
-    × (acceptedAmong (freshView fast) (newCalls newFast last 6) ≡ newInFast))
+accepted : ((acceptedAmong (freshView standard) (oldCalls earlyStandard lateStandard last 6) ≡ standardRun)
+    × (acceptedAmong (freshView standard) (newCalls lateStandard last 6) ≡ standardAgain))
+    × ((acceptedAmong (freshView fast) (oldCalls earlyFast oldFast last 6) ≡ fastRun)
+    × (acceptedAmong (freshView fast) (newCalls newFast last 6) ≡ fastAgain))
 unfolding
     acceptedAmong successive table stepOf acceptedOf stepFault stateFault numberFault lengthFault stopFault listsFault settingsFault
     sizeFault depthFault badSide anyOf walkBack backwardOf isScaled fastThreshold answered factorBy scaleOf _orElse_ ofBits ofInt sub mul div
@@ -65,7 +65,7 @@ unfolding
 accepted = ((refl, refl), (refl, refl))
 
 -- the run's release number
-released : (stateAfter (freshView standard) oldStandard .release ≡ 2) × (stateAfter (freshView fast) oldInFast .release ≡ 2)
+released : (stateAfter (freshView standard) standardRun .release ≡ 2) × (stateAfter (freshView fast) fastRun .release ≡ 2)
 unfolding
     stateAfter successive table stepOf acceptedOf stepFault stateFault numberFault lengthFault stopFault listsFault settingsFault
     sizeFault depthFault badSide anyOf walkBack backwardOf isScaled fastThreshold answered factorBy scaleOf _orElse_ ofBits ofInt sub mul div
@@ -84,24 +84,24 @@ fast-last (suc k) h = absurd (omega arith)
 
 -- ---- every hypothesis
 
-standard-calls : (r : ℕ) → r ≡ 2 → Again standard r oldStandard newStandard
+standard-again : (r : ℕ) → r ≡ 2 → Again standard r standardRun standardAgain
 unfolding successive
-standard-calls r e = record {
+standard-again r e = record {
   from = 3;
   early = omega arith;
   same = refl;
-  measured = λ mode. film-agrees standard standardPairs oldStandard
+  measured = λ mode. film-agrees standard standardPairs standardRun
       (all-join (OfFilm standard standardPairs) (oldUntil earlyStandard lateStandard 6) (last 13 ∷ [])
       (old-all (OfFilm standard standardPairs) earlyStandard lateStandard 6 (λ n. standard-film n n) (standard-film 0)) (standard-last, tt));
 }
 
-fast-calls : (r : ℕ) → r ≡ 2 → Again fast r oldInFast newInFast
+fast-again : (r : ℕ) → r ≡ 2 → Again fast r fastRun fastAgain
 unfolding successive
-fast-calls r e = record {
+fast-again r e = record {
   from = 3;
   early = omega arith;
   same = refl;
-  measured = λ mode. film-agrees fast fastPairs oldInFast
+  measured = λ mode. film-agrees fast fastPairs fastRun
       (all-join (OfFilm fast fastPairs) (oldUntil earlyFast oldFast 6) (last 13 ∷ [])
       (old-all (OfFilm fast fastPairs) earlyFast oldFast 6 (λ n. fast-film [] n n) (fast-film [] 0)) (fast-last, tt));
 }
@@ -135,13 +135,13 @@ module _ (D : Detector) (S : Shows D) (M : Makes D) (Alike : D .Kept → D .Kept
           let new = newCalls lateStandard last 6 in
           p .replayed standard (historyOf D M standard k b old) (historyOf D M standard k b new)
           (rw (history-accepted D M S standard k b old ∙ accepted .0 .0, history-accepted D M S standard k b new ∙ accepted .0 .1)
-          (standard-calls _ (ends-with standard k b old oldStandard (accepted .0 .0) ∙ released .0))),
+          (standard-again _ (ends-with standard k b old standardRun (accepted .0 .0) ∙ released .0))),
       λ k b.
           let old = oldCalls earlyFast oldFast last 6 in
           let new = newCalls newFast last 6 in
           p .replayed fast (historyOf D M fast k b old) (historyOf D M fast k b new)
           (rw (history-accepted D M S fast k b old ∙ accepted .1 .0, history-accepted D M S fast k b new ∙ accepted .1 .1)
-          (fast-calls _ (ends-with fast k b old oldInFast (accepted .1 .0) ∙ released .1))),
+          (fast-again _ (ends-with fast k b old fastRun (accepted .1 .0) ∙ released .1))),
     )
 
 pub value-same : BothSame byValue value-shows value-makes SameState (λ (s : State). s .«release_number») (λ s. refl)
@@ -152,3 +152,11 @@ places-same = both-same byPlaces places-show places-make SamePlaces (numberAt re
 
 pub c-same : BothSame inC c-shows c-makes SamePlaces (numberAt releasePlace) (λ p. refl)
 c-same = both-same inC c-shows c-makes SamePlaces (numberAt releasePlace) (λ p. refl) (replay-proved .forC)
+
+-- ---- the frames that a call looks at are those of its set: no set with a frame is passed over
+
+pub looks-first : (c : Call) → 0 < c .number → 0 < c .setLength → LooksAt c (c .number - 1)
+looks-first c n l = (omega arith, omega arith)
+
+pub looks-last : (c : Call) → 0 < c .number → 0 < c .setLength → LooksAt c (c .number + c .setLength - 2)
+looks-last c n l = (omega arith, omega arith)

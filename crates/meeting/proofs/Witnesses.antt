@@ -55,10 +55,10 @@ abbrev row : (ℕ → Float) → ℕ → List Float
 row f n = table 6 (λ (i : ℕ). f (n + i))
 
 -- by the keyframe and the number; Fast does not read `others`
-abbrev pub standardCall : ℕ → ℕ → Call
+abbrev standardCall : ℕ → ℕ → Call
 standardCall p n = call 7 n p (row cost n) (row whole n) (row whole n)
 
-abbrev pub fastCall : List Float → ℕ → ℕ → Call
+abbrev fastCall : List Float → ℕ → ℕ → Call
 fastCall others p n = call 7 n p (row cost n) others others
 
 -- j calls, from call a on
@@ -97,7 +97,7 @@ oldCalls early late last j =
 abbrev pub oldUntil : (ℕ → Call) → (ℕ → Call) → ℕ → List Call
 oldUntil early late j = early 1 ∷ early 2 ∷ successive late 3 (4 + j)
 
-abbrev pub plainSettings : ℕ → Settings
+abbrev plainSettings : ℕ → Settings
 plainSettings mode = record {
   width = 64;
   height = 64;

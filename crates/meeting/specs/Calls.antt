@@ -15,7 +15,8 @@ asRead g c =
     call (c .setLength) (c .number) (c .keyframe) (cond (readsInter g) (c .inter) []) (cond (readsAll g) (c .importance) [])
     (cond (readsAll g) (c .threshold) [])
 
--- a call has item k: "each list has L − 1 items". Of the items behind the sixth nothing is asked: no call with a full set scores one
+-- a call has item k: "each list has L − 1 items". Of the items behind the sixth nothing is asked: with a lookahead of five or more no call
+-- with a full set scores one, and with less a run is given again as a whole
 abbrev pub Has : Call → ℕ → Type 0
 Has c k = (k ≤ normalLookahead) × (suc k < c .setLength)
 

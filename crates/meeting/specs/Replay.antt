@@ -25,21 +25,22 @@ callsFrom n [] = []
 callsFrom n (c ∷ cs) = cond (leb n (c .number)) (c ∷ callsFrom n cs) (callsFrom n cs)
 
 -- "the call numbered one above the release number"
-abbrev pub restartCall : ℕ → ℕ
-restartCall release = suc release
+abbrev pub firstAgain : ℕ → ℕ
+firstAgain release = suc release
 
 -- The hypotheses. `old` are the accepted calls of a run with settings g, of any set lengths and keyframes, and `release` is its release
 -- number at the end; `new` are the accepted calls of a fresh detector with these settings.
 pub record Again (g : Settings) (release : ℕ) (old new : List Call) : Type 0 where
   -- "from the call numbered one above the release number", or from any before it
   pub from : ℕ
-  pub early : from ≤ restartCall release
+  pub early : from ≤ firstAgain release
   -- "given the run's accepted calls again .. to the last"
   pub same : map (asRead g) (callsFrom from old) ≡ map (asRead g) new
   -- "with one measurement per pair"; None mode reads none
   pub measured : isNone g ≡ false → OneMeasurement g old
 
--- the frames that a call looks at, n − 1 to n + L − 2: "n is the number of the set's second frame"
+-- the frames of a call's set, n − 1 to n + L − 2: "n is the number of the set's second frame". The detector sees none of them: who
+-- measures the lists looks at them
 abbrev pub LooksAt : Call → ℕ → Type 0
 LooksAt c f = (c .number ≤ f + 1) × (f + 2 ≤ c .number + c .setLength)
 
@@ -66,14 +67,14 @@ module _ (D : Detector) (release : D .Kept → ℕ) where
   -- 3. The fresh detector accepts all these calls.
   abbrev pub AcceptedAgain : Type 0
   AcceptedAgain =
-      (g : Settings) (from : ℕ) (old new : History D g) → from ≤ restartCall (release (lastKept old))
+      (g : Settings) (from : ℕ) (old new : History D g) → from ≤ firstAgain (release (lastKept old))
       → map (asRead g) (callsFrom from (acceptedCalls old)) ≡ map (asRead g) (callsIn D (new .made)) → acceptedCalls new ≡ callsIn D (new .made)
 
   -- 4. Every frame which those calls, and all that are accepted later, look at is numbered at or above the release number.
-  abbrev pub NeverPurged : Type 0
-  NeverPurged =
+  abbrev pub FramesStay : Type 0
+  FramesStay =
       (g : Settings) (run : History D g) (later : List (Made D)) → Follows D (lastKept run) later → let r = release (lastKept run) in
-      All (λ (c : Call). (f : ℕ) → LooksAt c f → r ≤ f) (callsFrom (restartCall r) (acceptedCalls run) ++ acceptedIn D later)
+      All (λ (c : Call). (f : ℕ) → LooksAt c f → r ≤ f) (callsFrom (firstAgain r) (acceptedCalls run) ++ acceptedIn D later)
 
   -- 5. The release number never falls.
   abbrev pub NeverFalls : Type 0
@@ -85,7 +86,7 @@ pub record Replay (D : Detector) (Alike : D .Kept → D .Kept → Type 0) (relea
   pub replayed : Replayed D Alike release
   pub stayReplayed : StayReplayed D Alike release
   pub acceptedAgain : AcceptedAgain D release
-  pub neverPurged : NeverPurged D release
+  pub framesStay : FramesStay D release
   pub neverFalls : NeverFalls D release
 
 -- What is proved: of the detector by value, of the one over lent places, and of the functions for C.
