@@ -15,7 +15,7 @@ use Rattle.state.specs.State.{Call}
 use Rattle.state.proofs.Tests.{and-both}
 use Rattle.detector.specs.Rules.{releaseLength, releases}
 use Rattle.detector.proofs.Release.{moves, moving, longer}
-use Rattle.meeting.specs.Calls.{asRead, FullSets}
+use Rattle.meeting.specs.Calls.{asRead, fullSet, FullSets}
 use Rattle.meeting.proofs.Newest.{InTurn}
 
 -- ---- the settings under which a call moves the release number
@@ -62,16 +62,17 @@ module _ (g : Settings) where
           absurd (omega arith)
 
   -- the first ones have full sets
+  full : (b : Call) (cs : List Call) → InTurn b cs → 0 < moving g (b ∷ cs) → fullSet ≤ b .setLength
+  full b cs w h =
+      omega (arith, leb-true releaseLength (b .setLength) (and-both (leb releaseLength (b .setLength)) _ (first-moves b cs w h) .0))
+
   pub first-full : (n : ℕ) (b : Call) (cs : List Call) → InTurn b cs → n ≤ moving g (b ∷ cs) → FullSets (take n (b ∷ cs))
   unfolding moving
   first-full zero b cs w h = tt
-  first-full (suc n) b [] w h =
-      let t = first-moves b [] w (omega arith) in
-      (leb-true releaseLength (b .setLength) (and-both (leb releaseLength (b .setLength)) _ t .0), rw (take-nil {A = Call} n) tt)
+  first-full (suc n) b [] w h = (full b [] w (omega arith), rw (take-nil {A = Call} n) tt)
   first-full (suc n) b (c ∷ cs) w h =
-      let t = first-moves b (c ∷ cs) w (omega arith) in
-      let rest : suc n ≤ 1 + moving g (c ∷ cs) = rw t at h in
-      (leb-true releaseLength (b .setLength) (and-both (leb releaseLength (b .setLength)) _ t .0), first-full n c cs (w .1) (omega arith))
+      let rest : suc n ≤ 1 + moving g (c ∷ cs) = rw (first-moves b (c ∷ cs) w (omega arith)) at h in
+      (full b (c ∷ cs) w (omega arith), first-full n c cs (w .1) (omega arith))
 
   -- of a run's later calls as many as are left
   pub moving-drop : (d : ℕ) (b : Call) (cs : List Call) → InTurn b cs → moving g (drop d (b ∷ cs)) ≡ moving g (b ∷ cs) - d

@@ -46,7 +46,7 @@ above q (c ∷ cs) = by (leb q (c .number)) refl (above q cs)
     by false e rest = rw e rest
 
 later-above : (g : Settings) (r : ℕ) (s : View) (cs : List Call) → Known g s → r ≤ s .release → allAccepted s cs ≡ true
-    → All (λ (c : Call). suc r ≤ c .number) cs
+    → All (λ (c : Call). firstAgain r ≤ c .number) cs
 unfolding allAccepted
 later-above g r s [] k h t = tt
 later-above g r s (c ∷ cs) k h t =
@@ -129,9 +129,9 @@ module _ (D : Detector) (S : Shows D) (Alike : D .Kept → D .Kept → Type 0)
       framesStay = λ g run later f.
           let r = release (keptAfter D (run .begun) (run .made)) in
           let w = history-leaves D S (keptAfter D (run .begun) (run .made)) later (sound D S g run) f in
-          all-so (λ (c : Call). suc r ≤ c .number) _ (λ c h x l. omega (arith, l .0))
+          all-so (λ (c : Call). firstAgain r ≤ c .number) _ (λ c h x l. omega (arith, l .0))
           (callsFrom (firstAgain r) (acceptedIn D (run .made)) ++ acceptedIn D later)
-          (all-join (λ (c : Call). suc r ≤ c .number) (callsFrom (firstAgain r) (acceptedIn D (run .made))) (acceptedIn D later)
+          (all-join (λ (c : Call). firstAgain r ≤ c .number) (callsFrom (firstAgain r) (acceptedIn D (run .made))) (acceptedIn D later)
           (above (firstAgain r) (acceptedIn D (run .made)))
           (later-above g r (end D S g run) (acceptedIn D later) (known D S g run) (omega (arith, reads (keptAfter D (run .begun) (run .made)))) (w .1)));
       neverFalls = λ g run later f.
