@@ -1,7 +1,7 @@
 -- Every hypothesis of specs/Meeting.antt holds of two histories with sets of seven frames, in Standard mode and in Fast, of each of the
 -- three detectors: computed, call by call. The old one begins two calls earlier, has keyframes of its own until then and refused calls
--- strewn in; so has the fresh one; and in Fast mode their unread lists differ. So no statement asks for more than that. In this crate,
--- here alone, definitions of other crates are opened: calls are computed by all of them.
+-- strewn in; so has the fresh one; and in Fast mode their unread lists differ. So no statement asks for more than that. Here and
+-- in ReplayWitness.antt definitions of other crates are opened, whatever they are: calls are computed by all of them.
 -- Assumes nothing.
 use mathlib.Core.Path.{_≡_, refl, sym, _∙_}
 use mathlib.Core.Bool.{true, _||_, cond}
@@ -97,7 +97,7 @@ oldCalls early late last j =
 abbrev pub oldUntil : (ℕ → Call) → (ℕ → Call) → ℕ → List Call
 oldUntil early late j = early 1 ∷ early 2 ∷ successive late 3 (4 + j)
 
-abbrev plainSettings : ℕ → Settings
+abbrev pub plainSettings : ℕ → Settings
 plainSettings mode = record {
   width = 64;
   height = 64;
