@@ -7,10 +7,18 @@
 #include <stdlib.h>
 #include <string.h>
 
+/* A file that cannot be read, as a folder, is found at once: before a frame is decided on. */
 enum status costs_open(struct costs *costs, const char *path)
 {
     *costs = (struct costs){.path = path, .file = fopen(path, "r")};
-    return costs->file == NULL ? say_failed("%s: %s", path, strerror(errno)) : DONE;
+    const int first = costs->file == NULL ? EOF : getc(costs->file);
+    if (first != EOF)
+        ungetc(first, costs->file);
+    if (costs->file != NULL && !ferror(costs->file))
+        return DONE;
+    const enum status status = say_failed("%s: %s", path, strerror(errno));
+    costs_close(costs);
+    return status;
 }
 
 /* A long line is shown by its beginning. */

@@ -10,11 +10,12 @@ struct page {
     size_t used;
     size_t room;
     bool broken; /* memory ran out: page_write says so */
+    bool gone;   /* nobody reads the standard output any more */
 };
 
 void page_add(struct page *page, const char *format, ...) SAY_FORMAT(2, 3);
 
-/* Writes the page to the standard output, at once and whole, and empties it. A reader that has gone is no fault to tell of. */
+/* Writes the page to the standard output, at once and whole, and empties it. That its reader has gone is not worth a message. */
 enum status page_write(struct page *page);
 
 void page_free(struct page *page);

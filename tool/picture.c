@@ -118,8 +118,9 @@ enum status picture_refused(const char *name, size_t width, size_t height, uint3
 {
     if (answer == -REFUSED_DEPTH)
         return say_refused(answer, "%s: samples of %u bits, and only 8 are taken", name, (unsigned)depth);
-    return say_refused(answer, "%s: a %s of %zu, and a side is 1 to %d", name, is_side(width) ? "height" : "width",
-                       is_side(width) ? height : width, LARGEST_SIDE);
+    const size_t side = is_side(width) ? height : width;
+    return say_refused(answer, "%s: a %s of %zu%s, and a side is 1 to %d", name, is_side(width) ? "height" : "width", side,
+                       side == SIZE_MAX ? " or more" : "", LARGEST_SIDE);
 }
 
 static uint8_t square_mean(const uint8_t *corner, size_t stride, size_t factor)

@@ -98,9 +98,10 @@ static void add_scene(struct report *report, uint64_t end, bool known)
 
 static enum status put(struct report *report)
 {
-    const enum status status = page_write(&report->page);
-    report->lost = status != DONE;
-    return status;
+    report->lost = report->lost || page_write(&report->page) != DONE;
+    report->page.used = 0;
+    const bool goes_on = report->options->log != NULL && !report->page.gone;
+    return report->lost && !goes_on ? FAILED : DONE;
 }
 
 static void tell_progress(struct report *report)
@@ -153,9 +154,8 @@ enum status report_end(struct report *report, enum status status)
             add_scene(report, report->film->first + report->frames, status == DONE);
         if (status == DONE)
             add_end(report);
-        const enum status wrote = put(report);
-        status = status == DONE ? wrote : status;
+        put(report);
     }
     page_free(&report->page);
-    return status;
+    return status == DONE && report->lost ? FAILED : status;
 }

@@ -20,7 +20,8 @@ struct report {
 
 void report_start(struct report *report, const struct options *options, const struct film *film);
 
-/* A verdict_taker. */
+/* A verdict_taker. A standard output that cannot be written stops the command, but not while a log is kept: scores on the card are
+   worth more than lines. That its reader has gone always does. */
 enum status report_take(void *report, const struct verdict *verdict);
 
 /* Closes the report. What was written stays, whatever the status. */
