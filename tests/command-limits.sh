@@ -143,8 +143,8 @@ for words in '114 fast' '114 standard' '100 fast --lookahead 4' '100 standard --
     is "the last release number, $words" "$(column 8 | awk '{ print $NF }')" "$1"
 done
 
-# One by one: the cuts in Fast and in Standard mode, the command's words, the differences. Three changes; a slow change; a
-# flash, and one near the end; a film of six frames; distances, which None mode has too on a still film.
+# One by one: the cuts in Fast and in Standard mode, the command's words, the differences. Three changes; one into noise;
+# slow ones; a flash, and one near the end; a film of six frames; distances, which None mode has too on a still film.
 every=0$(awk 'BEGIN { while (n++ < 25) printf ",%d", n }')
 while IFS='|' read -r fast standard words differences; do
     # shellcheck disable=SC2086 # words
@@ -153,6 +153,7 @@ while IFS='|' read -r fast standard words differences; do
     [ "$differences" != 29x0 ] || in_fast "$differences" "$fast" "$words --mode none"
 done << END
 0|0,16||9x0 40 2x0 40 2x0 40 15x0
+0|0,10||9x0 60 19x30
 0|0||9x0 8x6 12x0
 0|0,17||9x0 8x17 12x0
 0,17|0,17||9x0 8x18 12x0
