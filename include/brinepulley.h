@@ -1,8 +1,8 @@
 /* brinepulley.h: the decision core of a buoy's recorder, for C and C++ (libbrinepulley.a, Linux).
  *
- * Who vouches for the archive. For x86-64 the toolchain that proved the library compiled it too, and vouches for it; for Arm (aarch64)
- * it is the same proved module, compiled by that toolchain's LLVM without fused float operations, for which not the toolchain but the
- * tests and the comparison that are run on it vouch.
+ * Who vouches for the archive. For x86-64 the toolchain that proved the library compiled it too, and vouches for it; for Arm
+ * (aarch64) it is the same proved module, compiled by that toolchain's LLVM without fused float operations, for which not the
+ * toolchain but the tests and the comparison that are run on it vouch.
  *
  * What a function returns. A value at or above 0, or the number of a refusal, negated. A refused call writes nothing. Each
  * function's comment lists its refusals in the order in which they are tested; the first that applies is given. The refusals,

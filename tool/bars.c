@@ -40,6 +40,15 @@ static const char *bar_text(const struct verdict *verdict)
     return verdict->measured ? "too near the film's end to tell" : "none mode measures nothing";
 }
 
+/* A NaN has a sign on some machines, which says nothing. */
+static void add_measure(struct page *page, int width, bool measured, double value)
+{
+    if (measured && value == value)
+        page_add(page, " %*.4g", width, value);
+    else
+        page_add(page, " %*s", width, measured ? "nan" : "-");
+}
+
 void bars_add(struct page *page, const struct verdict *verdict)
 {
     const char *word = verdict->first ? "first" : verdict->cut ? "CUT" : verdict->large ? "large" : "no cut";
@@ -50,9 +59,7 @@ void bars_add(struct page *page, const struct verdict *verdict)
     else
         strcpy(bar, bar_text(verdict));
     page_add(page, "%7" PRIu64 " %-*s", verdict->frame, BAR_WIDTH, bar);
-    if (verdict->measured)
-        page_add(page, " %8.4g %9.4g", verdict->pair.inter, verdict->pair.threshold);
-    else
-        page_add(page, " %8s %9s", "-", "-");
+    add_measure(page, 8, verdict->measured, verdict->pair.inter);
+    add_measure(page, 9, verdict->measured, verdict->pair.threshold);
     page_add(page, " %-6s %8" PRIu64, word, verdict->release);
 }

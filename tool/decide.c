@@ -50,8 +50,8 @@ static enum status look_at(const struct options *options, const struct film *fil
     if (options->times && film->rate.frames == 0)
         return say_failed("%s: its header names no frame rate, so there are no times", film->name);
     if (options->settings.lookahead < FULL_LOOKAHEAD)
-        say_note("a lookahead below 5: flashes are not told from cuts, a line can show the score of the next pair, and no frame "
-                 "may be purged");
+        say_note("a lookahead below 5: the first lines show the next frame's score, changes are missed or found a frame early, "
+                 "and no frame may be purged");
     return DONE;
 }
 

@@ -17,7 +17,7 @@ static const char decide[] =
     "                     standard: inter costs from FILE, importance, intra costs;\n"
     "                     none: a cut every --max frames\n"
     "        --lookahead  frames to look ahead, at least 1 (default 5); below 5\n"
-    "                     flashes are not told from cuts\n"
+    "                     the answers are worse\n"
     "        --min        no cut at a distance below N (default 0)\n"
     "        --max        a cut at the latest N frames after the last one, or --min\n"
     "                     where that is more; none in a film's last four frames\n"
