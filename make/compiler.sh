@@ -12,7 +12,7 @@ compiles() {
     printf '#include <stdio.h>\nint main(void) { return puts("") < 0; }\n' > "$room/a.c"
     $compiler -o "$room/a" "$room/a.c" > /dev/null 2>&1 && good=0 || good=1
     rm -rf "$room"
-    return $good
+    return "$good"
 }
 
 emulates() { [ -z "$emulator" ] || command -v "$emulator" > /dev/null 2>&1; }
@@ -31,7 +31,7 @@ refuse() {
     exit 1
 }
 
-packages=$(echo $(missing))
+packages=$(missing | paste -sd ' ' -)
 if [ -n "$packages" ]; then
     by_hand="sudo apt-get install --no-install-recommends $packages"
     if [ "$target" = "$machine" ]; then
@@ -49,7 +49,8 @@ if [ -n "$packages" ]; then
     $as_root apt-get update -q >&2
     # shellcheck disable=SC2086 # packages are words
     $as_root env DEBIAN_FRONTEND=noninteractive apt-get install -y -q --no-install-recommends $packages >&2
-    [ -z "$(missing)" ] || refuse "still missing: $(echo $(missing))"
+    packages=$(missing | paste -sd ' ' -)
+    [ -z "$packages" ] || refuse "still missing: $packages"
 fi
 # A machine of 64 bits may have a compiler for 32.
 made_for=$($compiler -dumpmachine 2> /dev/null || echo "$target")
