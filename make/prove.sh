@@ -22,7 +22,7 @@ show() {
         'rt: target/staticlib/'*) echo "  brinepulley proved ($(($(date +%s) - began)) s)" ;;
         esac
     done 3> "$log"
-    [ "$before" = 0 ] || echo "  the other $before were proved before, and have not changed"
+    [ "$before" = 0 ] || echo "  proved before and not changed since: $before"
 }
 
 { "$rt" staticlib brinepulley 2>&1 && echo 0 > "$log.status" || echo $? > "$log.status"; } | show
