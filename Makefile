@@ -46,8 +46,8 @@ help:
 	@echo 'make bench             measure the speed'
 	@echo 'make clean             remove build/'
 	@echo
-	@echo 'TARGET=$(OTHER)         build for another machine than this one ($(MACHINE)), under build/$(OTHER)/. Only then is anything'
-	@echo '                       installed, a compiler and an emulator from Debian, and that is said before it is done'
+	@echo 'TARGET=$(OTHER)         build for another machine than this one, under build/$(OTHER)/. Only then is anything installed,'
+	@echo '                       a compiler and an emulator from Debian, and that is said before it is done'
 	@echo 'INSTALL=no             stop where something would have to be installed'
 	@echo 'PREFIX=/usr/local      where to install, below DESTDIR if that is given'
 	@echo 'CC=cc CFLAGS="-O2 -g"  the C compiler of this machine, and its options'
@@ -55,7 +55,7 @@ help:
 
 lib: $(ARCHIVE) $(HEADER) $(PKGCONFIG)
 
-$(ARCHIVE): $(CRATES) make/archive.sh make/prove.sh $(BUILD)/target
+$(ARCHIVE): $(CRATES) make/archive.sh $(BUILD)/target
 	$(quiet)RT='$(RT)' sh make/archive.sh $(TARGET) $@ $(BUILD)/prove.log
 
 $(HEADER): include/brinepulley.h

@@ -1,6 +1,6 @@
 #!/bin/sh
-# Tests of what a C program links: the archive's names and its float operations, what a program needs, the header by itself, and the
-# programs of the documents, linked as README.md says.
+# Tests of what a C program links: the archive's names and its float operations, what a program needs, the header by itself,
+# and the programs of the documents, linked as README.md says.
 # ARCHIVE, NM, OBJDUMP, COMPILER, STATIC, RUN, TARGET and MACHINE come from the Makefile. Its last line is 'N passed, M failed'.
 set -u
 SUITE=archive
@@ -19,14 +19,24 @@ verdict "it shows the header's names alone" $?
 verdict "it shows all fifteen" $?
 
 # It is for TARGET. No product and sum are one operation, which would round once where the rules round twice.
-case $TARGET in x86_64) format=elf64-x86-64 product='mulsd|mulpd' ;; *) format=elf64-littleaarch64 product=fmul ;; esac
-"$OBJDUMP" -d --no-show-raw-insn "$ARCHIVE" > "$room/code" 2> "$room/log"
+case $TARGET in
+    x86_64) format=elf64-x86-64 product='mulsd|mulpd' option=-mfma ;;
+    aarch64) format=elf64-littleaarch64 product=fmul option= ;;
+esac
+code() { "$OBJDUMP" -d --no-show-raw-insn "$1" 2> /dev/null; }
+fused() { grep -E '[[:space:]](fn?m(add|sub|la|ls)|vfn?m(add|sub)[a-z0-9]*)[[:space:]]' "$1"; }
+code "$ARCHIVE" > "$room/code"
 grep -q "file format $format\$" "$room/code"
 verdict "it is for $TARGET" $?
 grep -Eq "[[:space:]]($product)[[:space:]]" "$room/code"
 verdict "it has a float product" $?
-! grep -E '[[:space:]](fn?m(add|sub|la|ls)|vfn?m(add|sub)[a-z0-9]*)[[:space:]]' "$room/code" > "$room/log"
+! fused "$room/code" > "$room/log"
 verdict "it has no fused float operation" $?
+echo 'double f(double a, double b, double c) { return __builtin_fma(a, b, c); }' > "$room/fused.c"
+# shellcheck disable=SC2086 # option may be empty
+$COMPILER -O2 $option -c -o "$room/fused.o" "$room/fused.c" > "$room/log" 2>&1 &&
+    code "$room/fused.o" > "$room/code" && fused "$room/code" > "$room/log"
+verdict "a fused operation would be seen" $?
 
 # What it wants of others is libc's: a program links with nothing more, and needs no other library.
 cat > "$room/one.c" << 'END'

@@ -20,7 +20,8 @@ quick_start() { # FOLDER PATH
     if [ "$TARGET" != "$MACHINE" ] || ! command -v cc > /dev/null 2>&1; then line="$COMPILER $STATIC ${line#cc }"; fi
     mkdir -p "$room/by hand"
     if ! command -v pkg-config > /dev/null 2>&1; then
-        printf '#!/bin/sh\necho "-I$PKG_CONFIG_PATH/../../include -L$PKG_CONFIG_PATH/.. -lbrinepulley"\n' > "$room/by hand/pkg-config"
+        printf '#!/bin/sh\necho "-I$PKG_CONFIG_PATH/../../include -L$PKG_CONFIG_PATH/.. -lbrinepulley"\n' \
+            > "$room/by hand/pkg-config"
         chmod +x "$room/by hand/pkg-config"
     fi
     (
