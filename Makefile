@@ -29,7 +29,9 @@ WATCHED = $(BUILD)/tests/watched
 # What the archive comes from: must-fail edits are no part of it.
 CRATES = $(shell find crates crates.txt -name must-fail -prune -o -type f -print)
 TOOL_OBJECTS = $(patsubst %.c,$(BUILD)/%.o,$(wildcard tool/*.c))
-CHECK_OBJECTS = $(patsubst %.c,$(BUILD)/%.o,$(filter-out tests/film.c tests/watch.c,$(wildcard tests/*.c)))
+# Programs of their own, or parts of one, beside the tests of the library.
+OTHER_TESTS = tests/film.c tests/watch.c $(wildcard tests/fuzz*.c)
+CHECK_OBJECTS = $(patsubst %.c,$(BUILD)/%.o,$(filter-out $(OTHER_TESTS),$(wildcard tests/*.c)))
 
 OTHER = $(firstword $(filter-out $(MACHINE),x86_64 aarch64))
 help:
@@ -63,9 +65,9 @@ $(HEADER): include/brinepulley.h
 	@cp $< $@
 
 # Who vouches for the archive, in one sentence.
-VOUCHED_x86_64 = compiled for x86-64 by the toolchain that proved it
-VOUCHED_aarch64 = the proved module compiled for Arm by the LLVM of the toolchain, which vouches for x86-64 alone: \
-    for this archive stand the tests and the comparison that are run on it
+VOUCHED_x86_64 = compiled for x86-64 by the toolchain that proved it, which vouches for it
+VOUCHED_aarch64 = the same proved module, compiled for Arm by the LLVM of the toolchain that proved it: the toolchain vouches \
+    for x86-64 alone, and the tests and the comparison with the crate are run on this archive
 
 # The file finds its prefix from its own place, so it is right both under build/ and where it is installed.
 $(PKGCONFIG): Makefile $(BUILD)/target

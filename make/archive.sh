@@ -10,7 +10,7 @@ mkdir -p target "$(dirname "$out")" "$(dirname "$log")"
 # Two proofs in one folder would write the same files: the second waits.
 if command -v flock > /dev/null 2>&1; then
     exec 9> build/prove.lock
-    flock 9
+    flock -n 9 || { echo 'make: another make proves in this folder; waiting for it'; flock 9; }
 fi
 
 if [ "$target" = x86_64 ]; then
