@@ -5,6 +5,10 @@
 set -eu
 target=$1 out=$2 log=$3 rt=${RT:-rt}
 here=$(dirname "$0")
+command -v "$rt" > /dev/null 2>&1 || {
+    echo "make: the Rattle toolchain is needed: there is no '$rt' on the path" >&2
+    exit 2
+}
 mkdir -p target "$(dirname "$out")" "$(dirname "$log")"
 
 # Two proofs in one folder would write the same files: the second waits.
@@ -26,6 +30,7 @@ kit=${RATTLE_HOME:-$(cd "$(dirname "$(readlink -f "$(command -v "$rt")")")/.." &
 tools=on/$machine/toolchain
 room=$(mktemp -d)
 trap 'rm -rf "$room"' EXIT
+trap 'exit 130' INT TERM
 link_all_but() { # FOLDER NAME: the kit's FOLDER in the room, without NAME
     mkdir -p "$room/kit/$1"
     for file in "$kit/$1"/*; do [ "${file##*/}" = "$2" ] || ln -s "$file" "$room/kit/$1/"; done

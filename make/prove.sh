@@ -4,10 +4,6 @@
 # All that the prover says goes to LOG; on the screen is a line for each crate as it is proved. The status is rt's.
 set -eu
 log=$1 rt=${RT:-rt}
-command -v "$rt" > /dev/null 2>&1 || {
-    echo "make: the Rattle toolchain is needed: there is no '$rt' on the path" >&2
-    exit 2
-}
 crates=$(sed -n 's/^brinepulley: *//p' crates.txt | wc -w)
 echo "proving $((crates + 1)) crates, a few minutes the first time; the prover's notes go to $log"
 

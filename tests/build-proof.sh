@@ -29,6 +29,6 @@ proof 3
 [ "$status" = 3 ] && grep -qx '  log NOT PROVED (exit 1, 2 s)' "$room/out" && ! grep -q 'brinepulley proved' "$room/out" &&
     grep -qF "The last lines of $room/notes" "$room/err" && grep -qx '    a note of the prover' "$room/err"
 verdict "the proof: it fails as rt does, and shows why" $?
-(cd "$root" && RT=$room/no-rt sh make/prove.sh "$room/notes") > "$room/out" 2> "$room/err"
-[ $? = 2 ] && grep -q "there is no '$room/no-rt' on the path" "$room/err"
+(cd "$root" && RT=$room/no-rt sh make/archive.sh "$TARGET" "$room/none/x.a" "$room/notes") > "$room/out" 2> "$room/err"
+[ $? = 2 ] && [ ! -d "$room/none" ] && grep -q "there is no '$room/no-rt' on the path" "$room/err"
 verdict "the proof: no toolchain" $?
