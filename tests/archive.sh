@@ -68,7 +68,7 @@ fi
 
 # The quick start's program, as it stands in README.md, compiles without a warning.
 . "$(dirname "$0")/quick.sh"
-quick_program > "$room/quick.c"
+quick_program 1 > "$room/quick.c"
 # shellcheck disable=SC2086 # words
 $COMPILER -std=c11 -Wall -Wextra -Werror -I"$build/include" $STATIC -o "$room/quick" "$room/quick.c" "$ARCHIVE" > "$room/log" 2>&1
 verdict "the quick start's program compiles without a warning" $?
@@ -81,6 +81,37 @@ verdict "README.md says where the pkg-config file is" $?
 mkdir "$room/quick start" && ln -s "$build" "$room/quick start/build"
 quick_start "$room/quick start" "$(quick_path)"
 verdict "the quick start, linked as README.md says" $?
+
+# The reduction of README.md gives what the command's gives, on two pictures whose sides are halved.
+{
+    quick_program 2
+    cat << 'END'
+#include <stdio.h>
+enum { WIDTH = 483, HEIGHT = 243, COUNT = WIDTH * HEIGHT };
+static uint8_t before[COUNT], now[COUNT], room[2 * COUNT];
+static int put(const char *name, const uint8_t *samples)
+{
+    FILE *file = fopen(name, "wb");
+    return file == NULL || fprintf(file, "P5 %d %d 255\n", WIDTH, HEIGHT) < 0 || fwrite(samples, 1, COUNT, file) != COUNT || fclose(file);
+}
+int main(int count, char **words)
+{
+    double delta = 0;
+    for (size_t i = 0; i < COUNT; i++) { before[i] = (uint8_t)(i * i / 7); now[i] = (uint8_t)(i * 31 + i / WIDTH); }
+    if (count != 3 || put(words[1], before) || put(words[2], now) || frame_delta(before, now, WIDTH, HEIGHT, room, &delta) != 0)
+        return 1;
+    printf("%.17g\n", delta);
+    return 0;
+}
+END
+} > "$room/delta.c"
+# shellcheck disable=SC2086 # words
+$COMPILER -std=c11 -Wall -Wextra -Werror -I"$build/include" $STATIC -o "$room/delta" "$room/delta.c" "$ARCHIVE" > "$room/log" 2>&1
+verdict "the reduction's program compiles without a warning" $?
+delta=$($RUN "$room/delta" "$room/a.pgm" "$room/b.pgm")
+$RUN "$COMMAND" measure "$room/a.pgm" "$room/b.pgm" --mode fast > "$room/log" 2>&1
+[ -n "$delta" ] && awk -v want="$delta" '$1 == "delta" { got = $2 } END { exit !(got > 1 && sprintf("%.17g", got) == want) }' "$room/log"
+verdict "the reduction is the command's" $?
 
 # The recorder's loop of docs/FORMATS.md, as it stands there: run again over a torn rest it refuses the numbers that are there.
 awk '/^## /{ in_it = /^## A recorder/ } in_it && /^    / { print substr($0, 5) } in_it && /^$/' "$root/docs/FORMATS.md" \

@@ -16,12 +16,13 @@ proof() { # STATUS OF RT
 
 proof 0
 cat > "$room/wanted" << END
-proving 17 crates, a few minutes the first time; the prover's notes go to $room/notes
+proving N crates, a few minutes the first time; the prover's notes go to $room/notes
   sums proved (N s)
   brinepulley proved (N s)
   proved before and not changed since: 1
 END
-[ "$status" = 0 ] && [ ! -s "$room/err" ] && sed 's/([0-9]* s)$/(N s)/' "$room/out" | diff "$room/wanted" - > "$room/log"
+sed -e 's/([0-9]* s)$/(N s)/' -e 's/^proving [0-9]*/proving N/' "$room/out" > "$room/shown"
+[ "$status" = 0 ] && [ ! -s "$room/err" ] && diff "$room/wanted" "$room/shown" > "$room/log"
 verdict "the proof: a line for each crate" $?
 [ "$(wc -l < "$room/notes")" = 4 ] && grep -qx 'a note of the prover' "$room/notes"
 verdict "the proof: the notes are in the file" $?

@@ -1,11 +1,11 @@
 # What archive.sh and build.sh share: the quick start of README.md, its program and the line that links it.
 
-# The block of indented lines that begins with an #include.
-quick_program() {
-    awk '/^## / { in_it = /^## Quick start in C/ }
-        in_it && /^    #include/ { block = 1 }
-        block && /^[^ ]/ { exit }
-        block { print substr($0, 5) }' "$root/README.md"
+# The first or the second block of indented lines that begins with an #include.
+quick_program() { # NUMBER
+    awk -v wanted="$1" '/^## / { in_it = /^## Quick start in C/ }
+        /^[^ ]/ { block = 0 }
+        in_it && /^    #include/ && !block { block = ++count }
+        block == wanted { print substr($0, 5) }' "$root/README.md"
 }
 
 quick_line() { grep -o 'cc film\.c[^`]*' "$root/README.md"; }
@@ -15,7 +15,7 @@ quick_path() { sed -n 's/.*PKG_CONFIG_PATH=\([^` ]*\).*/\1/p' "$root/README.md" 
 # Runs the line in FOLDER with PATH for pkg-config, then the program, which must find a cut and name frames that may be purged.
 # For another machine `cc` is the cross compiler. Where there is no pkg-config, one that answers by hand takes its place.
 quick_start() { # FOLDER PATH
-    quick_program > "$1/film.c"
+    quick_program 1 > "$1/film.c"
     line=$(quick_line)
     if [ "$TARGET" != "$MACHINE" ] || ! command -v cc > /dev/null 2>&1; then line="$COMPILER $STATIC ${line#cc }"; fi
     mkdir -p "$room/by hand"
