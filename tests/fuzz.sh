@@ -99,7 +99,8 @@ tell() { # TARGET STATUS
         echo "$1: $runs inputs, no finding"
     else
         failed=$((failed + 1))
-        echo "$1: ${runs:-no} inputs, a finding: $(grep -a -E -m 1 'FOUND|ERROR|SUMMARY|runtime error' "$place/$1.log")"
+        what=$(grep -a -E -m 1 'FOUND|ERROR|SUMMARY|runtime error' "$place/$1.log" | LC_ALL=C tr -c ' -~' '?')
+        echo "$1: ${runs:-no} inputs, a finding: $what"
         echo "    the input: ${input:-none was kept}; all about it: $place/$1.log"
         echo "    once more: FUZZ_TARGET=$1 $place/fuzzer -close_fd_mask=3 ${input:-INPUT}"
     fi
