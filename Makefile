@@ -35,9 +35,9 @@ WATCHED = build/tests/watched
 # What the archive comes from: must-fail edits are no part of it.
 CRATES = $(shell find crates crates.txt -name must-fail -prune -o -type f -print)
 TOOL_OBJECTS = $(patsubst %.c,build/%.o,$(wildcard tool/*.c))
-CHECK_OBJECTS = $(patsubst %.c,build/%.o,$(filter-out tests/film.c tests/watch.c,$(wildcard tests/*.c)))
+CHECK_OBJECTS = $(patsubst %.c,build/%.o,$(filter-out tests/film.c tests/watch.c tests/fuzz%,$(wildcard tests/*.c)))
 
-.PHONY: all help lib install command install-command run check-c test beside bench clean compiler
+.PHONY: all help lib install command install-command run check-c fuzz test beside bench clean compiler
 .DELETE_ON_ERROR:
 
 all: lib command
@@ -47,6 +47,7 @@ help:
 	@echo 'make install PREFIX=   copy these three (and install-command the command) to PREFIX, $(PREFIX) by default'
 	@echo 'make run               build everything and run the demonstration'
 	@echo 'make check-c           test the library through its C header, and the command'
+	@echo 'make fuzz              films, pictures, costs and logs, whole and damaged, with sanitizers; FUZZ_SECONDS=60 for each kind'
 	@echo 'make test              the gate: prove everything from nothing, try the must-fail edits, run the programs'
 	@echo 'make beside            run beside the Rust crate and compare'
 	@echo 'make bench             measure the speed'
@@ -91,6 +92,9 @@ run: all
 check-c: lib $(COMMAND) $(CHECK) $(FILM) $(WATCHED)
 	@RUN='$(RUN)' NM='$(NM)' COMPILER='$(C_COMPILER)' STATIC='$(STATIC)' \
 	    ARCHIVE='$(ARCHIVE)' COMMAND='$(COMMAND)' CHECK='$(CHECK)' FILM='$(FILM)' WATCHED='$(WATCHED)' sh tests/run.sh
+
+fuzz: lib $(FILM)
+	@RUN='$(RUN)' ARCHIVE='$(ARCHIVE)' FILM='$(FILM)' sh tests/fuzz.sh
 
 test:
 	.ci/run
