@@ -1,4 +1,8 @@
-/* brinepulley.h: the decision core of a buoy's recorder, for C and C++ (libbrinepulley.a, x86-64 Linux).
+/* brinepulley.h: the decision core of a buoy's recorder, for C and C++ (libbrinepulley.a, Linux).
+ *
+ * Who vouches for the archive. For x86-64 the toolchain that proved the library compiled it too, and vouches for it; for Arm
+ * (aarch64) it is the same proved module, compiled by that toolchain's LLVM without fused float operations, for which not the
+ * toolchain but the tests and the comparison that are run on it vouch.
  *
  * What a function returns. A value at or above 0, or the number of a refusal, negated. A refused call writes nothing. Each
  * function's comment lists its refusals in the order in which they are tested; the first that applies is given. The refusals,
@@ -47,7 +51,8 @@ extern "C" {
 /* ---- measures ---- */
 
 /* The factor by which Fast mode divides a frame's sides, width and height, before frames are compared: 1 (none), 2, 4, 8, 16
- * or 32. In the other modes it is 1. The reduced sides are the sides divided by it, rounded down.
+ * or 32. In the other modes it is 1. The reduced sides are the sides divided by it, rounded down. The caller reduces; README.md
+ * shows how: each square of factor * factor samples becomes its mean, rounded to the nearest, a half up.
  * Refusals: 6. */
 int64_t brine_scale_factor(size_t width, size_t height, uint32_t mode);
 
@@ -156,6 +161,18 @@ enum brine_double {
  * Refusals: 11, where numbers_len is not BRINE_NUMBERS or scores_len not BRINE_SCORES; 6; 5. Then nothing is written. */
 int64_t brine_detector_fresh(size_t width, size_t height, uint32_t depth, size_t lookahead, uint32_t mode,
     uint64_t min, uint64_t max, uint64_t *numbers, size_t numbers_len, double *scores, size_t scores_len);
+
+/* What the step does not report, by the rules (docs/COMMAND.md has examples). A pair is large where its inter cost is at or
+ * above its threshold, which is 18 in Fast mode.
+ *   - With a lookahead of 5 or more a set of five frames or fewer gets 0, from distance `max` on too. So wait until a set
+ *     has seven frames; a film's last four get no decision. A first set of six is decided on by the pair after its own.
+ *   - Then, of two large pairs 1 to 4 frames apart neither is a cut in Fast mode, 5 apart the first alone. In Standard mode
+ *     it is the second; 5 apart both may be. Of three or more in a row the last is the cut; none is, if that is one of the
+ *     film's last four frames.
+ *   - With a lookahead below 5 and sets of L frames the first L - 2 calls are decided on by the pair after their own. In
+ *     Fast mode noise up to the film's end makes the last frame a cut. There, and in None mode, the release number stays.
+ *   - A change at a distance below `min` is lost; no later call makes up for it. A cut by `max` is a cut like any other.
+ * To see each large pair, cut or not, compare the inter costs that you lend with their thresholds. */
 
 /* The step: decides whether a scene begins at frame `frame`, from a set of `set_len` frames of which it is the second.
  * `previous_keyframe` is the number of the last frame at which a scene began. The first call may have any number from 1 on, and

@@ -60,17 +60,18 @@ goes_on_after 'pwrite short' write:0:47 write:20:27 sync
 goes_on_after 'pwrite interrupted' write:0:47 write:0:47 sync
 goes_on_after 'fdatasync interrupted' write:0:47 sync sync
 
-# Where a sync fails the command stops: it cannot say that the record is on the card.
-stops_after() { # FAULT WORDS CALL..
-    name=$1 words=$2
-    shift 2
+# Where a sync fails the command stops: it cannot say that the record is on the card. LINES frames have their line by then.
+stops_after() { # FAULT WORDS LINES CALL..
+    name=$1 words=$2 lines=$3
+    shift 3
     rm -f "$log"
     watched "$name" decide "$room/rest0.y4m" --log "$log"
-    [ "$status" = 2 ] && [ ! -s "$room/out" ] && grep -q "$words: Input/output error" "$room/err" && called "$@"
+    [ "$status" = 2 ] && [ "$(grep -c '^ *[0-9]' "$room/out")" = "$lines" ] &&
+        grep -q "$words: Input/output error" "$room/err" && called "$@"
     verdict "$name: the command stops" $?
 }
-stops_after 'fdatasync fails' "$log: record 0 at byte 0, frame 1: cannot be written" fsync:"$room" write:0:47 sync
-stops_after 'fsync fails' "$log" fsync:"$room"
+stops_after 'fdatasync fails' "$log: record 0 at byte 0, frame 1: cannot be written" 1 fsync:"$room" write:0:47 sync
+stops_after 'fsync fails' "$log" 0 fsync:"$room"
 
 # Another command appends while a log is read. Of the old rest the mark and the low byte of frame 2 were read before that; the record
 # of frame 256 goes over the rest. Both together would be frame 258, which nobody wrote.

@@ -9,17 +9,21 @@ ends "an empty film" 2 "not a Y4M film" decide "$bad"
 echo 'RIFF and so on' > "$bad"
 ends "no Y4M film" 2 "not a Y4M film" decide "$bad"
 printf 'YUV4MPEG2 W16 H16' > "$bad"
-ends "a header cut short" 2 "header line is cut short" decide "$bad"
-awk 'BEGIN { printf "YUV4MPEG2"; for (i = 0; i < 400; i++) printf " XLONG"; print "" }' > "$bad"
-ends "a header that does not end" 2 "does not end" decide "$bad"
+ends "a header cut short" 2 "header line: it is cut short" decide "$bad"
+printf 'YUV4MPEG2 W16 H16\r\nFRAME\r\n' > "$bad"
+ends "a film sent as a text" 2 "header line: it ends in CR LF" decide "$bad"
+printf 'YUV4MPEG2 W16 \000H16\nFRAME\n' > "$bad"
+ends "a zero byte in the header" 2 "header line: it holds a zero byte" decide "$bad"
+printf 'YUV4MPEG22 W16 H16\nFRAME\n' > "$bad"
+ends "another word at the begin" 2 "not a Y4M film" decide "$bad"
 printf 'YUV4MPEG2 H16\n' > "$bad"
 ends "a header without a width" 2 "no width" decide "$bad"
 printf 'YUV4MPEG2 W16\n' > "$bad"
 ends "a header without a height" 2 "no height" decide "$bad"
 printf 'YUV4MPEG2 W16x H16\n' > "$bad"
-ends "a width that is no number" 2 "width is not a number" decide "$bad"
+ends "a width that is no number" 2 "width is no number: W16x" decide "$bad"
 printf 'YUV4MPEG2 W16 H-1\n' > "$bad"
-ends "a height that is no number" 2 "height is not a number" decide "$bad"
+ends "a height that is no number" 2 "height is no number: H-1" decide "$bad"
 for colour in 411 444alpha 420p 420x 4208 420p0 422jpeg monop10 Mono; do
     printf 'YUV4MPEG2 W16 H16 C%s\n' "$colour" > "$bad"
     ends "colour space $colour" 2 "colour space C$colour" decide "$bad"
@@ -30,19 +34,47 @@ for bytes in 1 5 100 300 389; do
     film y4m 16 16 420 50 50 50 50 50 50 50 50 50 90 | tail -c +1 > "$bad"
     whole=$(wc -c < "$bad")
     head -c $((whole - bytes)) "$bad" > "$short"
-    ends "a last frame that lacks $bytes bytes" 2 "frame 9 is cut short" decide "$short"
+    breaks "a last frame that lacks $bytes bytes" 2 "frame 9 (at byte 3568): it is cut short" 4 decide "$short"
 done
+breaks "a broken film from frame 100 on" 2 "frame 109 (frame 9 of the film, at byte 3568): it is cut short" 4 \
+    decide "$short" --first 100
+[ "$(tail -c +3569 "$bad" | head -c 5)" = FRAME ]
+verdict "the place of the broken frame" $?
 { cat "$bad"; echo FRAMES; } > "$short"
-ends "a frame that does not begin with FRAME" 2 "frame 10 does not begin with FRAME" decide "$short"
+breaks "a frame that does not begin with FRAME" 2 "frame 10 (at byte 3958): it does not begin with FRAME" 5 decide "$short"
+{ cat "$bad"; echo; } > "$short"
+breaks "a line end behind the last frame" 2 "frame 10 (at byte 3958): it does not begin with FRAME" 5 decide "$short"
+{ cat "$bad"; printf 'FRAME\r\n'; } > "$short"
+breaks "CR LF behind FRAME" 2 "frame 10 (at byte 3958): it ends in CR LF" 5 decide "$short"
+{ cat "$bad"; printf 'FRAME I\000p\n'; } > "$short"
+breaks "a zero byte behind FRAME" 2 "frame 10 (at byte 3958): it holds a zero byte" 5 decide "$short"
+
+# What a terminal would obey does not reach it. Letters of other alphabets do.
+printf 'YUV4MPEG2 W1\033[2J\233\302\233\177 H16\n' > "$bad"
+ends "bytes that a terminal obeys" 2 'its width is no number: W1\\x1B\[2J\\x9B\\xC2\\x9B\\x7F$' decide "$bad"
+cp "$bad" "$room/größe Ж.y4m"
+ends "a name in other letters" 2 "größe Ж.y4m: its width" decide "$room/größe Ж.y4m"
+cp "$bad" "$room/two
+lines"
+ends "a name of two lines" 2 'two\\x0Alines: its width' decide "$room/two
+lines"
 
 for colour in 420p10 422p12 444p16 mono10; do
     printf 'YUV4MPEG2 W16 H16 C%s\nFRAME\n' "$colour" > "$bad"
-    ends "high depth $colour is refused" 1 "refused, 5: depth isn't 8" decide "$bad"
+    ends "high depth $colour is refused" 1 "samples of [0-9]* bits, and only 8 are taken (refusal 5)" decide "$bad"
 done
-for sides in 'W0 H16' 'W16 H0' 'W8193 H16' 'W16 H8193' 'W18446744073709551615 H18446744073709551615'; do
-    printf 'YUV4MPEG2 %s\nFRAME\n' "$sides" > "$bad"
-    ends "sides $sides are refused" 1 "refused, 6: a resolution side" decide "$bad"
-done
+while read -r sides told; do
+    printf 'YUV4MPEG2 %s\nFRAME\n' "$(echo "$sides" | tr , ' ')" > "$bad"
+    ends "sides $sides are refused" 1 "bad.y4m: a $told, and a side is 1 to 8192 (refusal 6)" decide "$bad"
+done << 'END'
+W0,H16 width of 0
+W16,H0 height of 0
+W8193,H16 width of 8193
+W16,H8193 height of 8193
+W12345678901,H16 width of 12345678901
+W18446744073709551615,H18446744073709551615 width of 18446744073709551615 or more
+W99999999999999999999999,H16 width of 18446744073709551615 or more
+END
 
 # The file of inter costs. The film has three pairs.
 costs=$room/costs
@@ -50,21 +82,38 @@ film y4m 16 16 420 50 50 90 90 > "$bad"
 standard="decide $bad --mode standard --inter $costs"
 ends "missing costs" 2 "No such file" $standard
 printf '1\n2\n' > "$costs"
-ends "a missing line of costs" 2 "line 3 is missing" $standard
+breaks "a missing line of costs" 2 "costs, line 3 is missing" 1 $standard
 : > "$costs"
-ends "no line of costs" 2 "line 1 is missing" $standard
+breaks "no line of costs" 2 "costs, line 1 is missing" 1 $standard
 printf '1\n\n3\n' > "$costs"
-ends "an empty line of costs" 2 "line 2 is not a number" $standard
+breaks "an empty line of costs" 2 "costs, line 2: '' is no number" 1 $standard
 printf '1\n2 3\n3\n' > "$costs"
-ends "two costs in a line" 2 "line 2 is not a number" $standard
+breaks "two costs in a line" 2 "costs, line 2: '2 3' is no number" 1 $standard
 printf '1\n2\n3x\n' > "$costs"
-ends "a malformed cost" 2 "line 3 is not a number" $standard
+breaks "a malformed cost" 2 "costs, line 3: '3x' is no number" 1 $standard
+printf '1\n\0332\n3\n' > "$costs"
+breaks "a cost that a terminal obeys" 2 "costs, line 2: '.x1B2' is no number" 1 $standard
+awk 'BEGIN { print 1; while (n++ < 50) printf "word"; print "" }' > "$costs"
+breaks "a long line of costs" 2 "costs, line 2: '\(word\)\{10\}[.][.]' is no number" 1 $standard
+printf '1\n2\0000\n3\n' > "$costs"
+breaks "a zero byte in a cost" 2 "costs, line 2: '2' is no number" 1 $standard
+printf '1\r\n2 \r\n3' > "$costs"
+command_run $standard
+[ "$status" = 0 ]
+verdict "costs with CR LF, and without a last line end" $?
+ends "a folder for costs" 2 "$room: Is a directory" decide "$bad" --mode standard --inter "$room"
 printf '1\n2\n3\n4\n' > "$costs"
-ends "a line of costs too many" 2 "line 4 is one too many" $standard
-for cost in -1 nan inf 1e999; do
+breaks "a line of costs too many" 2 "costs, line 4 is one too many" 1 $standard
+for cost in -1 nan inf -inf; do
     printf '1\n%s\n3\n' "$cost" > "$costs"
-    ends "a cost of $cost is refused" 1 "refused, 10: " $standard
+    breaks "a cost of $cost is refused" 1 "costs, line 2: $cost is no cost (refusal 10)" 1 $standard
 done
+printf '1\n2\n1e999\n' > "$costs"
+breaks "a cost of 1e999 is refused" 1 "costs, line 3: inf is no cost (refusal 10)" 1 $standard --first 100
+# The set of frame 9 is the first that holds the cost of the frames 14 and 15.
+film y4m 16 16 mono 50 50 50 50 50 50 50 50 50 50 50 50 50 50 50 50 50 50 > "$bad"
+awk 'BEGIN { while (n++ < 17) print n == 15 ? "nan" : 1 }' > "$costs"
+breaks "a wrong cost far on" 1 "costs, line 15: nan is no cost (refusal 10)" 10 $standard
 
 # Pictures.
 p=$room/p.pgm
@@ -77,6 +126,8 @@ printf 'P5 16' > "$q"
 ends "a PGM header cut short" 2 "PGM header" measure "$p" "$q"
 printf 'P5 16 x 255\n' > "$q"
 ends "a PGM header that is none" 2 "PGM header" measure "$p" "$q"
+ends "a folder for a picture" 2 "$room: Is a directory" measure "$p" "$room"
+ends "a folder for the first picture" 2 "$room: Is a directory" measure "$room" "$p"
 film pgm 16 16 100 50 > "$q"
 ends "a largest value of 100" 2 "largest value is 100" measure "$p" "$q"
 head -c 100 "$p" > "$q"
@@ -84,10 +135,18 @@ ends "a picture cut short" 2 "cut short" measure "$p" "$q"
 { cat "$p"; echo; } > "$q"
 ends "a picture with bytes behind it" 2 "bytes behind" measure "$p" "$q"
 film pgm 16 15 255 50 > "$q"
-ends "unlike sizes are refused" 1 "refused, 3: two planes differ" measure "$p" "$q"
-printf 'P5 8193 1 255\n' > "$q"
-ends "a side of 8,193 is refused" 1 "refused, 1: a side" measure "$p" "$q"
-printf 'P5 0 1 255\n' > "$q"
-ends "a side of 0 is refused" 1 "refused, 1: a side" measure "$q" "$p"
+ends "unlike sizes are refused" 1 "p.pgm is 16 × 16 and .*q.pgm 16 × 15: both must have one size (refusal 3)" measure "$p" "$q"
+while read -r sides told; do
+    printf 'P5 %s 255\n' "$(echo "$sides" | tr , ' ')" > "$q"
+    ends "a picture of $sides is refused" 1 "q.pgm: a $told, and a side is 1 to 8192 (refusal 1)" measure "$p" "$q"
+    ends "a first picture of $sides is refused" 1 "q.pgm: a $told, and a side is 1 to 8192 (refusal 1)" measure "$q" "$p" --mode fast
+done << 'END'
+8193,1 width of 8193
+0,1 width of 0
+1,0 height of 0
+1,8193 height of 8193
+12345678901,1 width of 12345678901
+99999999999999999999999,1 width of 18446744073709551615 or more
+END
 printf 'P5 4 1 65535\nabcdefgh' > "$q"
-ends "samples of 16 bits are refused" 1 "refused, 5: depth" measure "$p" "$q"
+ends "samples of 16 bits are refused" 1 "q.pgm: samples of 16 bits, and only 8 are taken (refusal 5)" measure "$p" "$q"

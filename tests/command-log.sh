@@ -87,30 +87,33 @@ awk -F, -v OFS=, '$3 != "" { print $1, $2, $3, $4, $5, $6, $7 }' "$room/out" > "
 command_run decide "$flat" --csv --log "$log" --first 16
 awk -F, -v OFS=, 'NR > 1 && $3 != "" { print $1, $2, $3, $4, $5, $6, $7 }' "$room/out" >> "$expected"
 gives "two nights in one log" "$expected" log --csv "$log"
-spares "a number that is in the log" 1 "frame 27 behind its last record, frame 27: refused, 14: number not rising" \
+spares "a number that is in the log" 1 "frame 27 cannot follow its last record, frame 27 (refusal 14)" \
     decide "$flat" --log "$log" --first 26
-spares "a number below the log's" 1 "frame 1 behind its last record, frame 27: refused, 14" decide "$flat" --log "$log"
+spares "a number below the log's" 1 "frame 1 cannot follow its last record, frame 27 (refusal 14)" decide "$flat" --log "$log"
 command_run decide "$flat" --log "$log" --first 27
 [ "$status" = 0 ] && [ "$(wc -c < "$log")" = $((33 * 47)) ]
 verdict "the number behind the log's last" $?
 
 # The end of the numbers: the step refuses 2^32, and what was decided before stays in the log.
-makes_none "frame 2^32" 1 "frame 4294967296: refused, 7" decide "$flat" --first 4294967295
-makes_none "frame 2^64" 1 "frame 0: refused, 7" decide "$flat" --first 18446744073709551615
-ends "frame 2^32 on the way" 1 "frame 4294967296: refused, 7" decide "$flat" --first 4294967290 --log "$log"
+past='would have the number 4294967296, and the largest is 4294967295 (refusal 7)'
+rm -f "$log"
+breaks "frame 2^32" 1 "flat.y4m: frame 1 of the film $past" 1 decide "$flat" --first 4294967295 --log "$log"
+[ ! -e "$log" ]
+verdict "frame 2^32: no log is made" $?
+breaks "frame 2^32 on the way" 1 "flat.y4m: frame 6 of the film $past" 6 decide "$flat" --first 4294967290 --log "$log"
 [ "$(wc -c < "$log")" = $((5 * 47)) ]
 verdict "frame 2^32 on the way: the log has what was decided before" $?
-spares "behind the last number" 1 "frame 1 behind its last record, frame 4294967295: refused, 14" decide "$flat" --log "$log"
+spares "behind the last number" 1 "frame 1 cannot follow its last record, frame 4294967295 (refusal 14)" decide "$flat" --log "$log"
 
 # Films that are refused or broken.
 printf 'YUV4MPEG2 W16 H16 C420p10\nFRAME\n' > "$bad"
-makes_none "a film of 10 bits" 1 "refused, 5" decide "$bad"
+makes_none "a film of 10 bits" 1 "(refusal 5)" decide "$bad"
 printf 'YUV4MPEG2 W0 H16\nFRAME\n' > "$bad"
-makes_none "a film without width" 1 "refused, 6" decide "$bad"
+makes_none "a film without width" 1 "(refusal 6)" decide "$bad"
 printf 'YUV4MPEG2 W16 H16\n' > "$bad"
 makes_none "a film without a frame" 2 "no frame" decide "$bad"
 printf 'YUV4MPEG2 W16 H16\nFRAME\n' > "$bad"
-makes_none "a first frame cut short" 2 "frame 0 is cut short" decide "$bad"
+makes_none "a first frame cut short" 2 "frame 0 (at byte 18): it is cut short" decide "$bad"
 makes_none "a missing film" 2 "No such file" decide "$room/none.y4m"
 makes_none "missing costs" 2 "No such file" decide "$flat" --mode standard --inter "$room/none"
 
@@ -162,26 +165,26 @@ ends "log of a folder" 2 "Is a directory" log "$room"
 
 # Files that are no log: the message names the record at fault. The places lie around those where a piece of a log ends.
 echo 'a text file, and longer than one record of a log would be' > "$log"
-spares "a text for a log" 1 "record 0 at byte 0: refused, 12: bad mark" decide "$flat" --log "$log" --first 1000
-ends "log of a text" 1 "record 0 at byte 0: refused, 12: bad mark" log "$log"
+spares "a text for a log" 1 "record 0 at byte 0: it does not begin with the mark SC (refusal 12)" decide "$flat" --log "$log" --first 1000
+ends "log of a text" 1 "record 0 at byte 0: it does not begin with the mark SC (refusal 12)" log "$log"
 put() { printf "$3" | dd of="$1" bs=1 seek="$2" conv=notrunc 2> /dev/null; } # FILE BYTE TEXT
 count_up() { awk -v again="$1" 'BEGIN { for (n = 0; n < 600; n++) print n == again ? n - 1 : n }'; }
 film log $(count_up -1) > "$kept"
 for record in 0 1 254 255 256 257 509 510 511 512 599; do
-    place="record $record at byte $((47 * record)): refused"
+    place="record $record at byte $((47 * record))"
     cp "$kept" "$log"
     put "$log" $((47 * record + 46)) '\002'
-    ends "a bad cut in record $record" 1 "$place, 13: cut byte above 1" log "$log"
+    ends "a bad cut in record $record" 1 "$place: its cut is above 1 (refusal 13)" log "$log"
     put "$log" $((47 * record + 1)) 'c'
-    ends "a bad mark in record $record, before its cut" 1 "$place, 12: bad mark" log "$log"
+    ends "a bad mark in record $record, before its cut" 1 "$place: it does not begin with the mark SC (refusal 12)" log "$log"
     [ "$record" = 0 ] || film log $(count_up "$record") > "$log"
-    [ "$record" = 0 ] || ends "a number in record $record" 1 "$place, 14: number not rising" log "$log"
+    [ "$record" = 0 ] || ends "a number in record $record" 1 "$place: its number is not above that of the record before (refusal 14)" log "$log"
 done
 cp "$kept" "$log"
 put "$log" $((47 * 300 + 46)) '\377'
 put "$log" $((47 * 400)) 'X'
-ends "the earliest record at fault" 1 "record 300 at byte 14100: refused, 13" log "$log"
-spares "the earliest record at fault, in decide" 1 "record 300 at byte 14100: refused, 13" decide "$flat" --log "$log" --first 600
+ends "the earliest record at fault" 1 "record 300 at byte 14100: its cut is above 1 (refusal 13)" log "$log"
+spares "the earliest record at fault, in decide" 1 "record 300 at byte 14100: its cut is above 1 (refusal 13)" decide "$flat" --log "$log" --first 600
 head -c $((47 * 300)) "$log" > "$kept"
 command_run decide "$flat" --log "$kept" --first 299
 [ "$status" = 0 ] && [ "$(wc -c < "$kept")" = $((47 * 311)) ]

@@ -21,6 +21,7 @@ rm -f "$whole" "$log"
 command_run decide "$room/rest0.y4m" --csv --log "$whole"
 [ "$status" = 0 ] && [ "$(cuts)" = "0 2" ] && [ "$(wc -c < "$whole")" = 235 ]
 verdict "the night's log" $?
+cp "$room/out" "$room/lines"
 
 # Goes on with a log of so many whole records, to the night's log.
 goes_on() { # LOG
@@ -72,16 +73,23 @@ command_run log --csv "$log"
 [ "$status" = 0 ] && [ "$(awk -F, 'NR > 1 { printf "%s:%s ", $1, $3 }' "$room/out")" = "4:4 5:5 " ]
 verdict "costs that are cut as the film is" $?
 
-# Without a standard output and a standard error the log must not take the place of one: messages would go into it.
+# Without a standard output and a standard error the log must not take the place of one: messages would go into it. The lines are
+# lost, and the log goes on to the film's end.
 head -c $((3 * 47 + 20)) "$whole" > "$log"
 $RUN "$COMMAND" decide "$room/rest3.y4m" --first 3 --log "$log" >&- 2>&-
 [ $? = 2 ] && cmp -s "$log" "$whole"
 verdict "a log where the standard streams are closed" $?
+if [ -w /dev/full ]; then
+    rm -f "$log"
+    $RUN "$COMMAND" decide "$room/rest0.y4m" --log "$log" > /dev/full 2> "$room/err"
+    [ $? = 2 ] && [ "$(wc -l < "$room/err")" = 1 ] && grep -q 'cannot write the answer' "$room/err" && cmp -s "$log" "$whole"
+    verdict "a log where the standard output is full" $?
+fi
 
-# A film that breaks off in its last frame: the log has what was decided before, the standard output nothing.
+# A film that breaks off in its last frame: the log and the standard output have what was decided before.
 rm -f "$log"
 head -c $(($(wc -c < "$room/rest0.y4m") - 1)) "$room/rest0.y4m" > "$room/short.y4m"
-ends "a film that breaks off" 2 "frame 9 is cut short" decide "$room/short.y4m" --log "$log"
+breaks "a film that breaks off" 2 "frame 9 (at byte 2417): it is cut short" 4 decide "$room/short.y4m" --log "$log"
 head -c $((3 * 47)) "$whole" | cmp -s - "$log"
 verdict "a film that breaks off: its log" $?
 goes_on "$log"
@@ -96,7 +104,7 @@ command_run decide "$room/long.y4m" --log "$kept"
 status=$?
 size=$(wc -c < "$log")
 records=$((size / 47))
-[ "$status" = 2 ] && [ ! -s "$room/out" ] &&
+[ "$status" = 2 ] &&
     grep -q "record $records at byte $((47 * records)), frame $((records + 1)): cannot be written: File too large" "$room/err"
 verdict "a full disk under the log" $?
 [ "$size" -lt "$(wc -c < "$kept")" ] && [ $((size % 47)) -gt 0 ] && head -c "$size" "$kept" | cmp -s - "$log"
@@ -134,8 +142,12 @@ for fed in 7 8 9 10; do
     kill -9 "$process"
     wait "$process" 2> /dev/null
     exec 9>&-
-    [ ! -s "$room/fed" ] && head -c $(((fed - 6) * 47)) "$whole" | cmp -s - "$log"
+    head -c $(((fed - 6) * 47)) "$whole" | cmp -s - "$log"
     verdict "killed after $fed frames: whole records" $?
+    # A line comes behind its record, so the last one may be missing. What is there is whole.
+    lines=$(wc -l < "$room/fed")
+    [ "$lines" -ge $((fed - 5)) ] && [ "$lines" -le $((fed - 4)) ] && head -n "$lines" "$room/lines" | cmp -s - "$room/fed"
+    verdict "killed after $fed frames: whole lines" $?
     goes_on "$log"
     verdict "killed after $fed frames: going on" $?
 done

@@ -28,6 +28,17 @@ ends() { # NAME STATUS WORDS ARGUMENTS..
     verdict "$name" $?
 }
 
+# The command ends with STATUS and says WORDS. The lines that were decided before stand on the standard output, whole: LINES of them,
+# and one with the columns' names.
+breaks() { # NAME STATUS WORDS LINES ARGUMENTS..
+    name=$1 want=$2 words=$3 lines=$4
+    shift 4
+    command_run "$@"
+    [ "$status" = "$want" ] && grep -q -- "$words" "$room/err" && [ "$(wc -l < "$room/out")" = $((lines + 1)) ] &&
+        [ "$(tail -c 1 "$room/out" | od -An -c | tr -d ' ')" = '\n' ] && ! grep -q 'frames, ' "$room/out"
+    verdict "$name" $?
+}
+
 # The command succeeds, says nothing on the standard error, and its output is the file WANT.
 gives() { # NAME WANT ARGUMENTS..
     name=$1 want=$2
@@ -52,8 +63,11 @@ cuts_at() { # NAME WANT ARGUMENTS..
 . "$(dirname "$0")/command-files.sh"
 . "$(dirname "$0")/command-answers.sh"
 . "$(dirname "$0")/command-encoders.sh"
+. "$(dirname "$0")/command-limits.sh"
 . "$(dirname "$0")/command-log.sh"
 . "$(dirname "$0")/command-power.sh"
 . "$(dirname "$0")/command-calls.sh"
+. "$(dirname "$0")/command-forms.sh"
+. "$(dirname "$0")/command-stream.sh"
 
 count

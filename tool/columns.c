@@ -24,7 +24,8 @@ static void add_csv(struct page *page, const struct verdict *verdict)
 
 static void add_words(struct page *page, const struct verdict *verdict)
 {
-    page_add(page, "%7" PRIu64 " %5s", verdict->frame, verdict->first ? "first" : verdict->cut ? "cut" : ".");
+    const char *word = verdict->first ? "first" : verdict->cut ? "cut" : verdict->large ? "large" : ".";
+    page_add(page, "%7" PRIu64 " %5s", verdict->frame, word);
     for (size_t i = 0; i < BRINE_SCORE_DOUBLES; i++) {
         if (!verdict->scored)
             page_add(page, " %10s", "-");
@@ -41,4 +42,20 @@ void columns_add(struct page *page, bool csv, const struct verdict *verdict)
         add_csv(page, verdict);
     else
         add_words(page, verdict);
+}
+
+void columns_text(struct page *page, bool csv, int width, const char *text)
+{
+    if (csv)
+        page_add(page, ",%s", text);
+    else
+        page_add(page, " %*s", width, text[0] == '\0' ? "-" : text);
+}
+
+void columns_sum(struct page *page, const char *thing, uint64_t things, uint64_t cuts, uint64_t large)
+{
+    page_add(page, "%" PRIu64 " %s%s, %" PRIu64 " cut%s", things, thing, things == 1 ? "" : "s", cuts, cuts == 1 ? "" : "s");
+    if (large > 0)
+        page_add(page, ", %" PRIu64 " large change%s that %s no cut", large, large == 1 ? "" : "s", large == 1 ? "is" : "are");
+    page_add(page, "\n");
 }

@@ -1,64 +1,79 @@
 #include "costs.h"
 
+#include "page.h"
+
 #include <errno.h>
+#include <inttypes.h>
 #include <stdlib.h>
 #include <string.h>
 
-enum { COST_ROOM = 128 };
-
+/* A file that cannot be read, as a folder, is found at once: before a frame is decided on. */
 enum status costs_open(struct costs *costs, const char *path)
 {
     *costs = (struct costs){.path = path, .file = fopen(path, "r")};
-    return costs->file == NULL ? say_failed("%s: %s", path, strerror(errno)) : DONE;
+    const int first = costs->file == NULL ? EOF : getc(costs->file);
+    if (first != EOF)
+        ungetc(first, costs->file);
+    if (costs->file != NULL && !ferror(costs->file))
+        return DONE;
+    const enum status status = say_failed("%s: %s", path, strerror(errno));
+    costs_close(costs);
+    return status;
 }
 
-static enum status bad_line(const struct costs *costs, const char *how)
+/* A long line is shown by its beginning. */
+static enum status no_number(const struct costs *costs)
 {
-    return say_failed("%s: line %llu %s", costs->path, (unsigned long long)costs->lines, how);
+    const char *text = costs->line.text;
+    const bool longer = strlen(text) > 40;
+    return say_failed("%s, line %" PRIu64 ": '%.40s%s' is no number", costs->path, costs->lines, text, longer ? ".." : "");
 }
 
-/* Reads a line into `line`, without its end. False where it is longer than any number, or holds a zero byte. */
-static bool read_line(FILE *file, char line[COST_ROOM], int c)
+static enum status unread(const struct costs *costs)
 {
-    size_t used = 0;
-    for (; c != '\n' && c != EOF; c = getc(file)) {
-        if (used + 1 == COST_ROOM || c == '\0')
-            return false;
-        line[used++] = (char)c;
-    }
-    if (used > 0 && line[used - 1] == '\r')
-        used--;
-    line[used] = '\0';
-    return true;
+    return say_failed("%s, line %" PRIu64 ": %s", costs->path, costs->lines, strerror(errno));
 }
 
 enum status costs_next(struct costs *costs, double *cost)
 {
-    char line[COST_ROOM];
     char *end = NULL;
 
     costs->lines++;
-    const int first = getc(costs->file);
-    if (first == EOF)
-        return bad_line(costs, ferror(costs->file) ? "cannot be read" : "is missing: the film has more frames");
-    if (!read_line(costs->file, line, first))
-        return bad_line(costs, "is not a number");
-    *cost = strtod(line, &end);
-    if (end == line || end[strspn(end, " \t")] != '\0')
-        return bad_line(costs, "is not a number");
+    const enum line_read got = line_read(&costs->line, costs->file);
+    if (got == LINE_FAULT)
+        return unread(costs);
+    if (got == LINE_NONE)
+        return say_failed("%s, line %" PRIu64 " is missing: the film has more frames", costs->path, costs->lines);
+    *cost = strtod(costs->line.text, &end);
+    if (got == LINE_ZERO || end == costs->line.text || end[strspn(end, " \t\r")] != '\0')
+        return no_number(costs);
     return DONE;
 }
 
 enum status costs_end(struct costs *costs)
 {
-    if (costs->file == NULL || getc(costs->file) == EOF)
+    if (costs->file == NULL)
         return DONE;
     costs->lines++;
-    return bad_line(costs, "is one too many: the film has no such pair of frames");
+    const enum line_read got = line_read(&costs->line, costs->file);
+    if (got == LINE_FAULT)
+        return unread(costs);
+    if (got == LINE_NONE)
+        return DONE;
+    return say_failed("%s, line %" PRIu64 " is one too many: the film has no such pair of frames", costs->path,
+                      costs->lines);
+}
+
+enum status costs_refused(const struct costs *costs, uint64_t line, double cost, int64_t answer)
+{
+    char number[NUMBER_ROOM];
+    number_text(number, cost);
+    return say_refused(answer, "%s, line %" PRIu64 ": %s is no cost", costs->path, line, number);
 }
 
 void costs_close(struct costs *costs)
 {
+    line_free(&costs->line);
     if (costs->file != NULL)
         fclose(costs->file);
     costs->file = NULL;

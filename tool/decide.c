@@ -3,6 +3,8 @@
 #include "options.h"
 #include "report.h"
 
+enum { FULL_LOOKAHEAD = 5 }; /* with less the detector looks at no later frame */
+
 /* Where the verdicts go. */
 struct desk {
     struct report report;
@@ -35,11 +37,22 @@ static enum status decide_film(const struct options *options, struct film *film)
         if (status != DONE)
             return status;
     }
-    report_start(&desk.report, options->csv, options->purge);
+    report_start(&desk.report, options, film);
     const enum status status = drive(film, &costs, &options->settings, desk_take, &desk);
     costs_close(&costs);
     journal_close(&desk.journal);
     return report_end(&desk.report, status);
+}
+
+/* What is asked for and can be had, though perhaps not as it is meant. */
+static enum status look_at(const struct options *options, const struct film *film)
+{
+    if (options->times && film->rate.frames == 0)
+        return say_failed("%s: its header names no frame rate, so there are no times", film->name);
+    if (options->settings.lookahead < FULL_LOOKAHEAD)
+        say_note("a lookahead below 5: the first lines show the next frame's score, changes are missed or found a frame early, "
+                 "and no frame may be purged");
+    return DONE;
 }
 
 enum status command_decide(int count, char **words)
@@ -48,12 +61,15 @@ enum status command_decide(int count, char **words)
     struct film film;
 
     enum status status = options_read(&options, count, words);
-    if (status != DONE)
-        return status;
+    if (status != DONE || options.help)
+        return status != DONE ? status : command_help();
     status = film_open_y4m(&film, options.film);
     if (status != DONE)
         return status;
-    status = decide_film(&options, &film);
+    film.first = options.first;
+    status = look_at(&options, &film);
+    if (status == DONE)
+        status = decide_film(&options, &film);
     film_close(&film);
     return status;
 }

@@ -1,7 +1,7 @@
+#include "bars.h"
 #include "commands.h"
 #include "draw.h"
-#include "driver.h"
-#include "picture.h"
+#include "words.h"
 
 #include <inttypes.h>
 #include <stdlib.h>
@@ -9,8 +9,7 @@
 
 enum {
     PANE_WIDTH = 36, /* letters of a picture in the terminal, two of them side by side */
-    PANE_HEIGHT = 11,
-    BAR_WIDTH = 42 /* the longest bar, one letter for a difference of 2 */
+    PANE_HEIGHT = 11
 };
 
 struct story {
@@ -77,30 +76,13 @@ static enum status add_pictures(struct page *page, const struct film *film)
     return DONE;
 }
 
-static void add_bar(struct page *page, const struct verdict *verdict)
-{
-    char bar[BAR_WIDTH + 1];
-    const double length = verdict->score[BRINE_INTER] / 2;
-    const size_t mark = (size_t)(verdict->score[BRINE_THRESHOLD] / 2);
-
-    for (size_t i = 0; i < BAR_WIDTH; i++)
-        bar[i] = (double)i < length ? '#' : i == mark ? '|' : ' ';
-    bar[BAR_WIDTH] = '\0';
-    page_add(page, "  %5" PRIu64 "  %s %6.1f  %-6s %8" PRIu64 "\n", verdict->frame, bar, verdict->score[BRINE_INTER],
-             verdict->cut ? "CUT" : "no cut", verdict->release);
-}
-
 static void add_chart(struct page *page, const struct story *story)
 {
-    page_add(page, "  frame  %-*s  delta           release\n", BAR_WIDTH, "difference to the frame before (| is 18)");
+    bars_head(page);
+    page_add(page, "\n");
     for (size_t i = 0; i < story->count; i++) {
-        const struct verdict *verdict = &story->verdicts[i];
-        if (verdict->scored)
-            add_bar(page, verdict);
-        else
-            page_add(page, "  %5" PRIu64 "  %-*s         %-6s %8" PRIu64 "\n", verdict->frame, BAR_WIDTH,
-                     verdict->first ? "the first frame begins the first scene" : "too near the film's end to tell",
-                     verdict->cut ? "first" : "no cut", verdict->release);
+        bars_add(page, &story->verdicts[i]);
+        page_add(page, "\n");
     }
 }
 
@@ -146,6 +128,8 @@ static enum status tell(const struct film *film, const struct story *story)
     return status;
 }
 
+static const struct option known[] = {WORDS_LAST};
+
 enum status command_demo(int count, char **words)
 {
     const struct settings settings = {.mode = BRINE_MODE_FAST, .lookahead = 5, .min = 0, .max = UINT32_MAX};
@@ -153,8 +137,12 @@ enum status command_demo(int count, char **words)
     struct film film;
     struct story story;
 
-    if (count != 0)
-        return say_usage("demo takes no words, not '%s'", words[0]);
+    words_start();
+    const int option = words_next(count, words, known);
+    if (option != WORDS_END)
+        return option == WORDS_HELP ? command_help() : FAILED;
+    if (optind < count)
+        return say_usage("demo takes no words, not '%s'", words[optind]);
     memset(&story, 0, sizeof story);
     film_open_drawn(&film);
     const enum status status = drive(&film, &costs, &settings, story_take, &story);

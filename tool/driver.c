@@ -1,6 +1,9 @@
 #include "driver.h"
 
-#include <stdio.h>
+#include "picture.h"
+
+#include <float.h>
+#include <inttypes.h>
 #include <string.h>
 
 enum {
@@ -23,20 +26,13 @@ struct driver {
 
 static enum status start(struct driver *driver, const struct film *film, const struct settings *settings)
 {
-    static const char *const modes[] = {"none", "fast", "standard"};
-    char what[512];
-
     memset(driver, 0, sizeof *driver);
     driver->mode = settings->mode;
     driver->most_pairs = settings->lookahead < LARGEST_LISTS ? settings->lookahead + 1 : LARGEST_LISTS;
     const int64_t answer =
         brine_detector_fresh(film->width, film->height, film->depth, settings->lookahead, settings->mode, settings->min,
                              settings->max, driver->numbers, BRINE_NUMBERS, driver->scores, BRINE_SCORES);
-    if (answer >= 0)
-        return DONE;
-    snprintf(what, sizeof what, "%.256s: %zu × %zu at %u bits, mode %s", film->name, film->width, film->height,
-             (unsigned)film->depth, settings->mode < 3 ? modes[settings->mode] : "unknown");
-    return say_refused(what, answer);
+    return answer < 0 ? picture_refused(film->name, film->width, film->height, film->depth, answer) : DONE;
 }
 
 /* Measures frames until the set is full or the film ends. */
@@ -67,8 +63,22 @@ static void advance(struct driver *driver)
     driver->pairs--;
 }
 
+/* Why a step was refused. Of the measures only inter costs from a file can be ones that the library does not take. */
+static enum status refused(const struct driver *driver, const struct gauge *gauge, uint64_t frame, int64_t answer)
+{
+    const struct film *film = gauge->film;
+    const uint64_t place = frame - film->first;
+    if (answer == -REFUSED_NUMBER)
+        return say_refused(answer, "%s: frame %" PRIu64 " of the film would have the number %" PRIu64
+                           ", and the largest is %" PRIu32, film->name, place, frame, UINT32_MAX);
+    for (size_t i = 0; i < driver->pairs && answer == -REFUSED_COST; i++)
+        if (!(driver->inter[i] >= 0 && driver->inter[i] <= DBL_MAX))
+            return costs_refused(gauge->costs, place + i, driver->inter[i], answer);
+    return say_refused(answer, "%s: frame %" PRIu64, film->name, frame);
+}
+
 /* One call of the detector: a list that the mode does not read is lent empty. */
-static enum status step(struct driver *driver, const struct film *film, uint64_t previous, struct verdict *verdict)
+static enum status step(struct driver *driver, const struct gauge *gauge, uint64_t previous, struct verdict *verdict)
 {
     const size_t pairs = driver->pairs;
     const size_t inter = driver->mode == BRINE_MODE_NONE ? 0 : pairs;
@@ -77,23 +87,24 @@ static enum status step(struct driver *driver, const struct film *film, uint64_t
         driver->numbers, BRINE_NUMBERS, driver->scores, BRINE_SCORES, pairs + 1, verdict->frame, previous,
         driver->inter, inter, driver->importance, others, driver->threshold, others);
 
-    if (answer < 0) {
-        char what[512];
-        snprintf(what, sizeof what, "%.256s: frame %llu", film->name, (unsigned long long)verdict->frame);
-        return say_refused(what, answer);
-    }
+    if (answer < 0)
+        return refused(driver, gauge, verdict->frame, answer);
     verdict->cut = answer == 1 || answer == 3;
     verdict->scored = answer >= 2;
     const double *score = driver->scores + driver->numbers[BRINE_OFFSET] * BRINE_SCORE_DOUBLES;
     if (verdict->scored)
         memcpy(verdict->score, score, sizeof verdict->score);
     verdict->release = driver->numbers[BRINE_RELEASE_NUMBER];
+    verdict->measured = driver->mode != BRINE_MODE_NONE;
+    verdict->pair = (struct pair){driver->inter[0], driver->importance[0], driver->threshold[0]};
+    verdict->large = verdict->measured && !verdict->cut && pair_is_large(&verdict->pair);
     return DONE;
 }
 
 /* The first frame begins a scene; then one step for each frame that has one before it. */
-static enum status decide_all(struct driver *driver, struct gauge *gauge, uint64_t first, verdict_taker *take, void *taker)
+static enum status decide_all(struct driver *driver, struct gauge *gauge, verdict_taker *take, void *taker)
 {
+    const uint64_t first = gauge->film->first;
     uint64_t previous = first;
     const struct verdict opening = {.frame = first, .first = true, .cut = true};
     enum status status = take(taker, &opening);
@@ -103,7 +114,7 @@ static enum status decide_all(struct driver *driver, struct gauge *gauge, uint64
         status = fill(driver, gauge);
         if (status != DONE || driver->pairs == 0)
             return status;
-        status = step(driver, gauge->film, previous, &verdict);
+        status = step(driver, gauge, previous, &verdict);
         if (status == DONE)
             status = take(taker, &verdict);
         if (verdict.cut)
@@ -124,7 +135,7 @@ enum status drive(struct film *film, struct costs *costs, const struct settings 
         return status;
     status = gauge_start(&gauge, film, costs, settings->mode);
     if (status == DONE)
-        status = decide_all(&driver, &gauge, settings->first, take, taker);
+        status = decide_all(&driver, &gauge, take, taker);
     gauge_free(&gauge);
     return status;
 }

@@ -10,7 +10,6 @@ struct settings {
     size_t lookahead;
     uint64_t min;
     uint64_t max;
-    uint64_t first; /* the number of the film's first frame */
 };
 
 /* What was decided on one frame. */
@@ -21,6 +20,9 @@ struct verdict {
     bool scored; /* whether there is a score */
     double score[BRINE_SCORE_DOUBLES];
     uint64_t release; /* frames numbered below may be purged */
+    bool measured;    /* whether there is a measure of this frame and the one before it; it need not be the score's */
+    struct pair pair;
+    bool large; /* no cut, and yet the inter cost of this pair reaches its threshold */
 };
 
 /* Takes a verdict. Any status but DONE stops the drive. */

@@ -2,9 +2,8 @@
 #ifndef FILM_H
 #define FILM_H
 
-#include "say.h"
-
-#include <stdio.h>
+#include "line.h"
+#include "page.h"
 
 enum fetched { FRAME, END, BROKEN }; /* BROKEN: the reader has said why */
 
@@ -13,13 +12,17 @@ struct film {
     size_t width;
     size_t height;
     uint32_t depth;
+    struct rate rate;
+    uint64_t first; /* the number of its first frame, as the caller counts */
     /* Puts the next frame's width × height samples at `luma`. */
     enum fetched (*next)(struct film *film, uint8_t *luma);
     uint64_t frames; /* how many were fetched */
 
     /* a Y4M file's own */
     FILE *file;
-    uint32_t colour; /* how chroma goes with luma: enum colour of y4m.c */
+    uint32_t colour;  /* how chroma goes with luma: enum colour of y4m.c */
+    uint64_t bytes;   /* how many were read, up to the frame in hand */
+    struct line line; /* a header line's room */
 };
 
 /* Opens a Y4M film and reads its header; "-" is the standard input. Sides and depth are as the header says: the library

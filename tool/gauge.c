@@ -5,6 +5,14 @@
 
 #include <stdlib.h>
 
+/* Fast mode's threshold, (18 × depth) / 8, and the depth is 8. The detector has its own: this one is for the reader's eye. */
+enum { FAST_THRESHOLD = 18 };
+
+bool pair_is_large(const struct pair *pair)
+{
+    return pair->inter >= pair->threshold;
+}
+
 static bool make_room(struct gauge *gauge)
 {
     const size_t full = gauge->film->width * gauge->film->height;
@@ -35,7 +43,7 @@ enum status gauge_start(struct gauge *gauge, struct film *film, struct costs *co
     *gauge = (struct gauge){.film = film, .costs = costs, .mode = mode};
     const int64_t factor = brine_scale_factor(film->width, film->height, mode);
     if (factor < 0)
-        return say_refused(film->name, factor);
+        return say_refused(factor, "%s: its sides have no scale factor", film->name);
     gauge->factor = (size_t)factor;
     gauge->width = film->width / gauge->factor;
     gauge->height = film->height / gauge->factor;
@@ -51,6 +59,7 @@ enum status gauge_start(struct gauge *gauge, struct film *film, struct costs *co
 static int64_t measure_fast(struct gauge *g, struct pair *pair)
 {
     const size_t n = g->width * g->height;
+    pair->threshold = FAST_THRESHOLD;
     return brine_delta(8, g->before, n, g->width, g->height, g->width, 0, g->now, n, g->width, g->height, g->width, 0,
                        &pair->inter);
 }
@@ -87,7 +96,7 @@ enum status gauge_next(struct gauge *gauge, struct pair *pair, bool *ended)
     if (gauge->mode == BRINE_MODE_STANDARD)
         answer = measure_standard(gauge, pair);
     if (answer < 0)
-        return say_refused(gauge->film->name, answer);
+        return say_refused(answer, "%s: its frames cannot be measured", gauge->film->name);
     return gauge->mode == BRINE_MODE_STANDARD ? costs_next(gauge->costs, &pair->inter) : DONE;
 }
 

@@ -5,12 +5,15 @@
 #include "costs.h"
 #include "film.h"
 
-/* What the detector reads of one pair of frames. */
+/* What is measured of one pair of frames. In Fast mode the detector reads the inter cost alone; in None mode all are 0. */
 struct pair {
     double inter;
     double importance;
     double threshold;
 };
+
+/* Whether the inter cost reaches the threshold. */
+bool pair_is_large(const struct pair *pair);
 
 struct gauge {
     struct film *film;

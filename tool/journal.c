@@ -111,15 +111,13 @@ static enum status try_number(const struct journal *journal, uint32_t number)
     uint32_t last = 0;
     uint64_t bits[BRINE_SCORE_DOUBLES], torn = 0;
     uint8_t cut = 0;
-    char what[512];
 
     const int64_t answer = brine_log_append(copy.end, sizeof copy.end, copy.used, number, 0, 0, 0, 0, 0, 0);
     if (answer >= 0)
         return DONE;
     brine_log_read(journal->end, journal->used, &last, 1, bits, BRINE_SCORE_DOUBLES, &cut, 1, &torn);
-    snprintf(what, sizeof what, "%.256s: frame %" PRIu32 " behind its last record, frame %" PRIu32, journal->path, number,
-             last);
-    return say_refused(what, answer);
+    return say_refused(answer, "%s: frame %" PRIu32 " cannot follow its last record, frame %" PRIu32, journal->path, number,
+                       last);
 }
 
 enum status journal_open(struct journal *journal, const char *path, uint64_t number, const struct film *film,
@@ -163,19 +161,17 @@ enum status journal_add(struct journal *journal, const struct verdict *verdict)
 {
     const double *s = verdict->score;
     const uint64_t at = journal->records * BRINE_RECORD_BYTES;
-    char what[512];
 
-    snprintf(what, sizeof what, "%.256s: record %" PRIu64 " at byte %" PRIu64 ", frame %" PRIu64, journal->path,
-             journal->records, at, verdict->frame);
     /* The step takes no number past 32 bits. */
     const int64_t used =
         brine_log_append(journal->end, sizeof journal->end, journal->used, (uint32_t)verdict->frame, s[BRINE_INTER],
                          s[BRINE_IMPORTANCE], s[BRINE_BACKWARD], s[BRINE_FORWARD], s[BRINE_THRESHOLD], verdict->cut);
     if (used < 0)
-        return say_refused(what, used);
+        return say_refused(used, "%s: frame %" PRIu64 " cannot follow its last record", journal->path, verdict->frame);
     const uint8_t *record = journal->end + used - BRINE_RECORD_BYTES;
     if (!write_down(journal->file, record, BRINE_RECORD_BYTES, at))
-        return say_failed("%s: cannot be written: %s", what, strerror(errno));
+        return say_failed("%s: record %" PRIu64 " at byte %" PRIu64 ", frame %" PRIu64 ": cannot be written: %s",
+                          journal->path, journal->records, at, verdict->frame, strerror(errno));
     memmove(journal->end, record, BRINE_RECORD_BYTES);
     journal->used = BRINE_RECORD_BYTES;
     journal->records++;

@@ -2,36 +2,53 @@
 #include "columns.h"
 #include "commands.h"
 #include "pieces.h"
+#include "words.h"
 
 #include <errno.h>
 #include <fcntl.h>
-#include <inttypes.h>
-#include <stdio.h>
 #include <string.h>
 #include <unistd.h>
 
 struct listing {
     const char *path;
     bool csv;
+    bool help; /* help is all that is asked for */
     struct page page;
     uint64_t records;
     uint64_t cuts;
+    uint64_t large;
     uint64_t torn;
 };
 
+enum { OPTION_CSV = FIRST_OPTION };
+
+static const struct option known[] = {{"csv", no_argument, NULL, OPTION_CSV}, WORDS_LAST};
+
 static enum status read_words(struct listing *listing, int count, char **words)
 {
-    for (int i = 0; i < count; i++) {
-        if (strcmp(words[i], "--csv") == 0)
-            listing->csv = true;
-        else if (words[i][0] == '-' && words[i][1] != '\0')
-            return say_usage("log has no option '%s'", words[i]);
-        else if (listing->path != NULL)
-            return say_usage("log takes one file, not '%s' and '%s'", listing->path, words[i]);
-        else
-            listing->path = words[i];
+    words_start();
+    for (int option = 0; option != WORDS_END && !listing->help;) {
+        option = words_next(count, words, known);
+        if (option == WORDS_WRONG)
+            return FAILED;
+        listing->csv = listing->csv || option == OPTION_CSV;
+        listing->help = option == WORDS_HELP;
     }
-    return listing->path == NULL ? say_usage("log wants a file") : DONE;
+    if (listing->help)
+        return DONE;
+    if (optind == count)
+        return say_usage("log wants a file");
+    if (optind + 1 < count)
+        return say_usage("log takes one file, not '%s' and '%s'", words[optind], words[optind + 1]);
+    listing->path = words[optind];
+    return DONE;
+}
+
+/* A record has the score's own inter cost and threshold. */
+static bool is_large(const struct verdict *verdict)
+{
+    const struct pair pair = {.inter = verdict->score[BRINE_INTER], .threshold = verdict->score[BRINE_THRESHOLD]};
+    return !verdict->cut && pair_is_large(&pair);
 }
 
 /* The records of a piece that the piece before did not have. */
@@ -44,14 +61,16 @@ static enum status add_piece(struct listing *listing, const struct pieces *piece
     const int64_t answer = brine_log_read(pieces->bytes, pieces->used, numbers, PIECE_RECORDS, bits,
                                           PIECE_RECORDS * BRINE_SCORE_DOUBLES, cuts, PIECE_RECORDS, &listing->torn);
     if (answer < 0)
-        return say_refused(pieces->name, answer);
+        return say_refused(answer, "%s: its records cannot be read", pieces->name);
     for (size_t k = pieces->shared; k < (size_t)answer; k++) {
         struct verdict verdict = {.frame = numbers[k], .cut = cuts[k] == 1, .scored = true};
         memcpy(verdict.score, bits + k * BRINE_SCORE_DOUBLES, sizeof verdict.score);
+        verdict.large = is_large(&verdict);
         columns_add(&listing->page, listing->csv, &verdict);
         page_add(&listing->page, "\n");
         listing->records++;
         listing->cuts += verdict.cut;
+        listing->large += verdict.large;
     }
     return DONE;
 }
@@ -71,8 +90,7 @@ static enum status list_file(struct listing *listing, const char *name, int file
             return status;
     }
     if (!listing->csv)
-        page_add(&listing->page, "%" PRIu64 " record%s, %" PRIu64 " cut%s\n", listing->records,
-                 listing->records == 1 ? "" : "s", listing->cuts, listing->cuts == 1 ? "" : "s");
+        columns_sum(&listing->page, "record", listing->records, listing->cuts, listing->large);
     say_rest(name, listing->torn, listing->records, "");
     return page_write(&listing->page);
 }
@@ -82,8 +100,8 @@ enum status command_log(int count, char **words)
     struct listing listing = {0};
 
     enum status status = read_words(&listing, count, words);
-    if (status != DONE)
-        return status;
+    if (status != DONE || listing.help)
+        return status != DONE ? status : command_help();
     const bool standard_input = strcmp(listing.path, "-") == 0;
     const int file = standard_input ? STDIN_FILENO : open(listing.path, O_RDONLY | O_CLOEXEC);
     if (file < 0)

@@ -1,10 +1,11 @@
+/* The subcommand `measure`: the measures of two pictures, whole, or reduced as Fast mode has them. */
 #include "commands.h"
 
-#include "brinepulley.h"
+#include "options.h"
 #include "picture.h"
+#include "words.h"
 
 #include <inttypes.h>
-#include <stdio.h>
 #include <stdlib.h>
 
 struct measures {
@@ -52,55 +53,121 @@ static enum status measure_threshold(const struct picture *p, struct measures *m
     }
     free(work);
     free(costs);
-    return answer < 0 ? say_refused("intra costs", answer) : status;
+    return answer < 0 ? say_refused(answer, "the second picture has no intra costs") : status;
 }
 
-static enum status write_measures(const struct measures *m)
+/* Why two pictures were refused: the library looks at the depth first, then at each picture's sides, then at both. */
+static enum status refused(const struct picture *a, const struct picture *b, char **names, int64_t answer)
+{
+    const bool depth = answer == -REFUSED_DEPTH;
+    const bool second = depth ? a->depth == 8 : !picture_has_bad_side(a);
+    if (answer == -REFUSED_UNLIKE)
+        return say_refused(answer, "%s is %zu × %zu and %s %zu × %zu: both must have one size", names[0], a->width, a->height,
+                           names[1], b->width, b->height);
+    const struct picture *p = second ? b : a;
+    return picture_refused(names[second], p->width, p->height, p->depth, answer);
+}
+
+static void add_number(struct page *page, const char *name, double value, const char *more)
+{
+    char number[NUMBER_ROOM];
+    number_text(number, value);
+    page_add(page, "%-10s %s%s\n", name, number, more);
+}
+
+static enum status write_measures(const struct measures *m, const struct picture *p, size_t factor)
 {
     struct page page = {0};
-    char delta[NUMBER_ROOM], importance[NUMBER_ROOM], threshold[NUMBER_ROOM];
+    char blocks[96];
 
-    number_text(delta, m->delta);
-    number_text(importance, m->importance);
-    number_text(threshold, m->threshold);
+    page_add(&page, "pictures   %zu × %zu", p->width, p->height);
+    if (factor == 0)
+        page_add(&page, ", whole\n");
+    else
+        page_add(&page, ", as fast mode has them: sides divided by %zu\n", factor);
     page_add(&page, "difference %" PRId64 "\n", m->difference);
-    page_add(&page, "delta      %s\n", delta);
-    page_add(&page, "importance %s (total %" PRId64 " over %" PRId64 " blocks)\n", importance, m->total, m->blocks);
-    page_add(&page, "threshold  %s (of the second picture)\n", threshold);
+    add_number(&page, "delta", m->delta, "");
+    if (factor == 0) {
+        snprintf(blocks, sizeof blocks, " (total %" PRId64 " over %" PRId64 " blocks)", m->total, m->blocks);
+        add_number(&page, "importance", m->importance, blocks);
+        add_number(&page, "threshold", m->threshold, " (of the second picture)");
+    }
     const enum status status = page_write(&page);
     page_free(&page);
     return status;
 }
 
-static enum status measure_pictures(const struct picture *a, const struct picture *b, char **words)
+static enum status measure_whole(const struct picture *a, const struct picture *b, char **names)
 {
     struct measures measures = {0};
     const int64_t answer = measure_pair(a, b, &measures);
 
-    if (answer < 0) {
-        char what[640];
-        snprintf(what, sizeof what, "%.200s: %zu × %zu at %u bits, %.200s: %zu × %zu at %u bits", words[0], a->width,
-                 a->height, (unsigned)a->depth, words[1], b->width, b->height, (unsigned)b->depth);
-        return say_refused(what, answer);
-    }
+    if (answer < 0)
+        return refused(a, b, names, answer);
     const enum status status = measure_threshold(b, &measures);
-    return status == DONE ? write_measures(&measures) : status;
+    return status == DONE ? write_measures(&measures, a, 0) : status;
 }
 
-enum status command_measure(int count, char **words)
+/* Delta alone, of both pictures reduced as `decide` reduces frames. Pictures that cannot be measured are refused whole. */
+static enum status measure_reduced(struct picture *a, struct picture *b, char **names)
+{
+    struct measures measures = {0};
+    int64_t answer = measure_pair(a, b, &measures);
+
+    if (answer < 0)
+        return refused(a, b, names, answer);
+    const int64_t factor = brine_scale_factor(a->width, a->height, BRINE_MODE_FAST);
+    if (factor < 0)
+        return picture_refused(names[0], a->width, a->height, a->depth, factor);
+    picture_shrink(a, (size_t)factor);
+    picture_shrink(b, (size_t)factor);
+    answer = measure_pair(a, b, &measures);
+    return answer < 0 ? refused(a, b, names, answer) : write_measures(&measures, a, (size_t)factor);
+}
+
+enum { OPTION_MODE = FIRST_OPTION };
+
+static const struct option known[] = {{"mode", required_argument, NULL, OPTION_MODE}, WORDS_LAST};
+
+/* The mode that is asked for: Standard measures whole pictures. */
+static enum status read_words(int count, char **words, uint32_t *mode, bool *help)
+{
+    *mode = BRINE_MODE_STANDARD;
+    words_start();
+    for (int option = 0; option != WORDS_END && !*help;) {
+        option = words_next(count, words, known);
+        if (option == WORDS_WRONG)
+            return FAILED;
+        if (option == OPTION_MODE && (!mode_read(optarg, mode) || *mode == BRINE_MODE_NONE))
+            return say_usage("--mode wants fast or standard, not '%s'", optarg);
+        *help = option == WORDS_HELP;
+    }
+    return *help || count - optind == 2 ? DONE : say_usage("measure wants two pictures");
+}
+
+static enum status measure_files(char **names, uint32_t mode)
 {
     struct picture a, b;
+    enum status status = picture_read_pgm(&a, names[0]);
 
-    if (count != 2)
-        return say_usage("measure wants two pictures");
-    enum status status = picture_read_pgm(&a, words[0]);
     if (status != DONE)
         return status;
-    status = picture_read_pgm(&b, words[1]);
+    status = picture_read_pgm(&b, names[1]);
     if (status == DONE) {
-        status = measure_pictures(&a, &b, words);
+        status = mode == BRINE_MODE_FAST ? measure_reduced(&a, &b, names) : measure_whole(&a, &b, names);
         picture_free(&b);
     }
     picture_free(&a);
     return status;
+}
+
+enum status command_measure(int count, char **words)
+{
+    uint32_t mode = 0;
+    bool help = false;
+
+    const enum status status = read_words(count, words, &mode, &help);
+    if (status != DONE || help)
+        return status != DONE ? status : command_help();
+    return measure_files(words + optind, mode);
 }

@@ -1,23 +1,35 @@
 #include "options.h"
 
 #include "brinepulley.h"
+#include "words.h"
 
-#include <errno.h>
-#include <stdlib.h>
 #include <string.h>
 
-static bool read_number(const char *text, uint64_t *number)
-{
-    char *end = NULL;
-    if (text[0] < '0' || text[0] > '9')
-        return false;
-    errno = 0;
-    const unsigned long long value = strtoull(text, &end, 10);
-    *number = value;
-    return errno == 0 && *end == '\0';
-}
+enum {
+    OPTION_MODE = FIRST_OPTION,
+    OPTION_LOOKAHEAD,
+    OPTION_MIN,
+    OPTION_MAX,
+    OPTION_INTER,
+    OPTION_LOG,
+    OPTION_FIRST,
+    OPTION_CUTS,
+    OPTION_BARS,
+    OPTION_TIMES,
+    OPTION_PURGE,
+    OPTION_CSV
+};
 
-static bool read_mode(const char *text, uint32_t *mode)
+static const struct option known[] = {
+    {"mode", required_argument, NULL, OPTION_MODE},   {"lookahead", required_argument, NULL, OPTION_LOOKAHEAD},
+    {"min", required_argument, NULL, OPTION_MIN},     {"max", required_argument, NULL, OPTION_MAX},
+    {"inter", required_argument, NULL, OPTION_INTER}, {"log", required_argument, NULL, OPTION_LOG},
+    {"first", required_argument, NULL, OPTION_FIRST}, {"cuts", no_argument, NULL, OPTION_CUTS},
+    {"bars", no_argument, NULL, OPTION_BARS},         {"times", no_argument, NULL, OPTION_TIMES},
+    {"purge", no_argument, NULL, OPTION_PURGE},       {"csv", no_argument, NULL, OPTION_CSV},
+    WORDS_LAST};
+
+bool mode_read(const char *text, uint32_t *mode)
 {
     /* by document 01's numbers */
     static const char *const names[] = {"none", "fast", "standard"};
@@ -31,75 +43,69 @@ static bool read_mode(const char *text, uint32_t *mode)
 
 static enum status take_number(const char *name, const char *value, uint64_t *number)
 {
-    return read_number(value, number) ? DONE : say_usage("%s wants a whole number, not '%s'", name, value);
+    return number_read(value, number) ? DONE : say_usage("%s wants a whole number, not '%s'", name, value);
 }
 
-static enum status take_file(const char **file, const char *value)
+static enum status take_lookahead(const char *value, size_t *lookahead)
 {
-    *file = value;
-    return DONE;
-}
-
-/* Elsewhere '-' is the standard input, to which no log can be written. */
-static enum status take_log(const char **file, const char *value)
-{
-    if (value[0] == '\0' || strcmp(value, "-") == 0)
-        return say_usage("--log wants the name of a file, not '%s'", value);
-    return take_file(file, value);
-}
-
-/* An option that has a value. */
-static enum status take_option(struct options *options, const char *name, const char *value)
-{
-    uint64_t lookahead = 0;
-    if (strcmp(name, "--min") == 0)
-        return take_number(name, value, &options->settings.min);
-    if (strcmp(name, "--max") == 0)
-        return take_number(name, value, &options->settings.max);
-    if (strcmp(name, "--first") == 0)
-        return take_number(name, value, &options->settings.first);
-    if (strcmp(name, "--mode") == 0)
-        return read_mode(value, &options->settings.mode)
-            ? DONE
-            : say_usage("--mode wants fast, standard or none, not '%s'", value);
-    if (strcmp(name, "--inter") == 0)
-        return take_file(&options->inter, value);
-    if (strcmp(name, "--log") == 0)
-        return take_log(&options->log, value);
-    const enum status status = take_number(name, value, &lookahead);
-    if (status == DONE && (lookahead == 0 || lookahead > SIZE_MAX))
+    uint64_t number = 0;
+    const enum status status = take_number("--lookahead", value, &number);
+    if (status == DONE && (number == 0 || number > SIZE_MAX))
         return say_usage("--lookahead wants at least 1");
-    options->settings.lookahead = (size_t)lookahead;
+    *lookahead = (size_t)number;
     return status;
 }
 
-static bool has_value(const char *word)
+/* Frames have numbers of 32 bits. */
+static enum status take_first(const char *value, uint64_t *first)
 {
-    static const char *const names[] = {"--mode", "--lookahead", "--min", "--max", "--first", "--inter", "--log"};
-    for (size_t i = 0; i < sizeof names / sizeof names[0]; i++)
-        if (strcmp(word, names[i]) == 0)
-            return true;
-    return false;
+    const enum status status = take_number("--first", value, first);
+    return status == DONE && *first > UINT32_MAX ? say_usage("--first wants a number below 2^32, not '%s'", value) : status;
 }
 
-static enum status take_switch(bool *on)
+/* Elsewhere '-' is the standard input, to which no log can be written. */
+static enum status take_log(const char *value, const char **log)
 {
-    *on = true;
-    return DONE;
+    *log = value;
+    return value[0] != '\0' && strcmp(value, "-") != 0 ? DONE : say_usage("--log wants the name of a file, not '%s'", value);
 }
 
-/* One word that has no value: the film, --csv or --purge. */
-static enum status take_word(struct options *options, const char *word)
+static enum status take_form(struct options *options, enum form form)
 {
-    if (strcmp(word, "--csv") == 0)
-        return take_switch(&options->csv);
-    if (strcmp(word, "--purge") == 0)
-        return take_switch(&options->purge);
-    if (word[0] == '-' && word[1] != '\0')
-        return say_usage("decide has no option '%s'", word);
-    if (options->film != NULL)
-        return say_usage("decide takes one film, not '%s' and '%s'", options->film, word);
-    options->film = word;
+    const bool other = options->form != FORM_LINES && options->form != form;
+    options->form = form;
+    return other ? say_usage("--cuts and --bars are two ways to show a film: ask for one") : DONE;
+}
+
+static enum status take_option(struct options *options, int option, const char *value)
+{
+    switch (option) {
+    case OPTION_MODE:
+        return mode_read(value, &options->settings.mode)
+            ? DONE
+            : say_usage("--mode wants fast, standard or none, not '%s'", value);
+    case OPTION_LOOKAHEAD:
+        return take_lookahead(value, &options->settings.lookahead);
+    case OPTION_MIN:
+        return take_number("--min", value, &options->settings.min);
+    case OPTION_MAX:
+        return take_number("--max", value, &options->settings.max);
+    case OPTION_FIRST:
+        return take_first(value, &options->first);
+    case OPTION_LOG:
+        return take_log(value, &options->log);
+    case OPTION_CUTS:
+        return take_form(options, FORM_CUTS);
+    case OPTION_BARS:
+        return take_form(options, FORM_BARS);
+    default:
+        break;
+    }
+    options->inter = option == OPTION_INTER ? value : options->inter;
+    options->times = options->times || option == OPTION_TIMES;
+    options->purge = options->purge || option == OPTION_PURGE;
+    options->csv = options->csv || option == OPTION_CSV;
+    options->help = options->help || option == WORDS_HELP;
     return DONE;
 }
 
@@ -107,30 +113,34 @@ static enum status take_word(struct options *options, const char *word)
 static enum status fits_together(const struct options *options)
 {
     const bool standard = options->settings.mode == BRINE_MODE_STANDARD;
-    if (options->film == NULL)
-        return say_usage("decide wants a film");
     if (standard && options->inter == NULL)
         return say_usage("standard mode reads its inter costs from a file: --inter FILE");
     if (!standard && options->inter != NULL)
         return say_usage("--inter goes with --mode standard alone");
+    if (options->form == FORM_BARS && options->csv)
+        return say_usage("--bars is for people and --csv for machines: ask for one");
+    if (options->form != FORM_LINES && options->purge)
+        return say_usage("--purge is a column of the lines, which --cuts and --bars do not have");
     return DONE;
 }
 
 enum status options_read(struct options *options, int count, char **words)
 {
     *options = (struct options){.settings = {.mode = BRINE_MODE_FAST, .lookahead = 5, .min = 0, .max = UINT32_MAX}};
-    for (int i = 0; i < count; i++) {
-        enum status status = DONE;
-        if (!has_value(words[i]))
-            status = take_word(options, words[i]);
-        else if (i + 1 == count)
-            status = say_usage("%s wants a value", words[i]);
-        else {
-            status = take_option(options, words[i], words[i + 1]);
-            i++;
-        }
-        if (status != DONE)
-            return status;
+    enum status status = DONE;
+
+    words_start();
+    for (int option = 0; option != WORDS_END && status == DONE && !options->help;) {
+        option = words_next(count, words, known);
+        if (option != WORDS_END)
+            status = option == WORDS_WRONG ? FAILED : take_option(options, option, optarg);
     }
+    if (status != DONE || options->help)
+        return status;
+    if (optind == count)
+        return say_usage("decide wants a film");
+    if (optind + 1 < count)
+        return say_usage("decide takes one film, not '%s' and '%s'", words[optind], words[optind + 1]);
+    options->film = words[optind];
     return fits_together(options);
 }

@@ -6,8 +6,6 @@
 #include <stdlib.h>
 #include <string.h>
 
-enum { LARGEST_NUMBER = 1000000000 };
-
 /* The next byte of a PGM's header; a comment counts as the line end that closes it. */
 static int header_byte(FILE *file)
 {
@@ -18,7 +16,7 @@ static int header_byte(FILE *file)
     return c;
 }
 
-/* One number of the header with the one blank behind it. */
+/* One number of the header with the one blank behind it. One that is too large for a number here is the largest there is. */
 static bool header_number(FILE *file, size_t *number)
 {
     int c = header_byte(file);
@@ -26,13 +24,19 @@ static bool header_number(FILE *file, size_t *number)
         c = header_byte(file);
     size_t value = 0;
     bool any = false;
-    while (c >= '0' && c <= '9' && value <= LARGEST_NUMBER) {
-        value = 10 * value + (size_t)(c - '0');
+    for (; c >= '0' && c <= '9'; c = header_byte(file)) {
+        const size_t digit = (size_t)(c - '0');
+        value = value > (SIZE_MAX - digit) / 10 ? SIZE_MAX : 10 * value + digit;
         any = true;
-        c = header_byte(file);
     }
     *number = value;
     return any && c != EOF && isspace(c);
+}
+
+/* A fault of the file, if it is one that cannot be read. */
+static enum status fault(FILE *file, const char *path, const char *how)
+{
+    return say_failed("%s: %s", path, ferror(file) ? strerror(errno) : how);
 }
 
 static uint32_t bits_of(size_t largest)
@@ -47,21 +51,30 @@ static enum status read_header(struct picture *picture, FILE *file, const char *
 {
     size_t largest = 0;
     if (getc(file) != 'P' || getc(file) != '5')
-        return say_failed("%s: not a binary PGM picture (it does not begin with P5)", path);
+        return fault(file, path, "not a binary PGM picture (it does not begin with P5)");
     if (!header_number(file, &picture->width) || !header_number(file, &picture->height)
         || !header_number(file, &largest))
-        return say_failed("%s: its PGM header is not width, height and largest value", path);
+        return fault(file, path, "its PGM header is not width, height and largest value");
     if (largest < 255 || largest > 65535)
         return say_failed("%s: its largest value is %zu, not 255", path, largest);
     picture->depth = bits_of(largest);
     return DONE;
 }
 
+static bool is_side(size_t side)
+{
+    return side >= 1 && side <= LARGEST_SIDE;
+}
+
+bool picture_has_bad_side(const struct picture *picture)
+{
+    return !is_side(picture->width) || !is_side(picture->height);
+}
+
 /* A side or a depth that the library will refuse: then the samples are not read. */
 static bool refusable(const struct picture *picture)
 {
-    return picture->depth != 8 || picture->width == 0 || picture->width > LARGEST_SIDE || picture->height == 0
-        || picture->height > LARGEST_SIDE;
+    return picture->depth != 8 || picture_has_bad_side(picture);
 }
 
 static enum status read_samples(struct picture *picture, FILE *file, const char *path)
@@ -73,11 +86,11 @@ static enum status read_samples(struct picture *picture, FILE *file, const char 
     if (picture->count == 0)
         return DONE;
     const size_t got = fread(picture->samples, 1, picture->count, file);
-    if (got < picture->count)
+    if (got < picture->count && !ferror(file))
         return say_failed("%s: cut short, %zu of %zu samples", path, got, picture->count);
-    if (getc(file) != EOF)
+    if (!ferror(file) && getc(file) != EOF)
         return say_failed("%s: bytes behind the last of its %zu samples", path, picture->count);
-    return DONE;
+    return ferror(file) ? fault(file, path, "") : DONE;
 }
 
 enum status picture_read_pgm(struct picture *picture, const char *path)
@@ -101,6 +114,15 @@ void picture_free(struct picture *picture)
     *picture = (struct picture){0};
 }
 
+enum status picture_refused(const char *name, size_t width, size_t height, uint32_t depth, int64_t answer)
+{
+    if (answer == -REFUSED_DEPTH)
+        return say_refused(answer, "%s: samples of %u bits, and only 8 are taken", name, (unsigned)depth);
+    const size_t side = is_side(width) ? height : width;
+    return say_refused(answer, "%s: a %s of %zu%s, and a side is 1 to %d", name, is_side(width) ? "height" : "width", side,
+                       side == SIZE_MAX ? " or more" : "", LARGEST_SIDE);
+}
+
 static uint8_t square_mean(const uint8_t *corner, size_t stride, size_t factor)
 {
     const uint32_t squares = (uint32_t)(factor * factor);
@@ -116,4 +138,13 @@ void picture_reduce(uint8_t *to, const uint8_t *from, size_t width, size_t heigh
     for (size_t y = 0; y < height / factor; y++)
         for (size_t x = 0; x < width / factor; x++)
             *to++ = square_mean(from + y * factor * width + x * factor, width, factor);
+}
+
+/* A square's mean goes to a place that no later square holds: in front of it, or its own first sample. */
+void picture_shrink(struct picture *picture, size_t factor)
+{
+    picture_reduce(picture->samples, picture->samples, picture->width, picture->height, factor);
+    picture->width /= factor;
+    picture->height /= factor;
+    picture->count = picture->width * picture->height;
 }

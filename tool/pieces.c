@@ -54,19 +54,31 @@ static enum status fill(struct pieces *pieces)
     return DONE;
 }
 
+static const char *fault(int64_t answer)
+{
+    switch (-answer) {
+    case REFUSED_MARK:
+        return "it does not begin with the mark SC";
+    case REFUSED_CUT:
+        return "its cut is above 1";
+    case REFUSED_ORDER:
+        return "its number is not above that of the record before";
+    default:
+        return "it is refused";
+    }
+}
+
 /* The record at fault is the one behind the longest beginning that the library accepts. */
 static enum status refused(const struct pieces *pieces, int64_t answer)
 {
-    char what[512];
     uint64_t torn = 0;
     size_t good = 0;
 
     while (brine_log_scan(pieces->bytes, (good + 1) * BRINE_RECORD_BYTES, &torn) >= 0)
         good++;
     const uint64_t record = pieces->before + good;
-    snprintf(what, sizeof what, "%.256s: record %" PRIu64 " at byte %" PRIu64, pieces->name, record,
-             record * BRINE_RECORD_BYTES);
-    return say_refused(what, answer);
+    return say_refused(answer, "%s: record %" PRIu64 " at byte %" PRIu64 ": %s", pieces->name, record,
+                       record * BRINE_RECORD_BYTES, fault(answer));
 }
 
 enum status pieces_next(struct pieces *pieces)

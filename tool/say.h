@@ -1,4 +1,4 @@
-/* What the command tells its user: faults, refusals, and answers that are written whole or not at all. */
+/* What the command tells its user on the standard error: faults, refusals, notes. */
 #ifndef SAY_H
 #define SAY_H
 
@@ -15,36 +15,34 @@ enum status { DONE = 0, REFUSED = 1, FAILED = 2 };
 #define SAY_FORMAT(at, first)
 #endif
 
-/* Writes one line to the standard error and gives FAILED. */
+/* Each writes one line. Names and bytes of files may stand in it: what a terminal would obey is escaped. */
+
+/* Gives FAILED. */
 enum status say_failed(const char *format, ...) SAY_FORMAT(1, 2);
 
 /* The same for a wrong command line: it also says where help is. */
 enum status say_usage(const char *format, ...) SAY_FORMAT(1, 2);
 
-/* Says that the library refused, with the refusal's number and words, and gives REFUSED. `answer` is the library's. */
-enum status say_refused(const char *what, int64_t answer);
+/* The library's refusals that this command has words for, by document 01's numbers and, from 12 on, document 02's. */
+enum refusal {
+    REFUSED_PLANE = 1,
+    REFUSED_UNLIKE = 3,
+    REFUSED_DEPTH = 5,
+    REFUSED_RESOLUTION = 6,
+    REFUSED_NUMBER = 7,
+    REFUSED_COST = 10,
+    REFUSED_MARK = 12,
+    REFUSED_CUT = 13,
+    REFUSED_ORDER = 14
+};
+
+/* Says why the library refused, with the refusal's number, and gives REFUSED. `answer` is the library's. */
+enum status say_refused(int64_t answer, const char *format, ...) SAY_FORMAT(2, 3);
+
+/* A remark: the command goes on. */
+void say_note(const char *format, ...) SAY_FORMAT(1, 2);
 
 /* Says that a log has a torn rest, behind how many records, and what comes of it. Without a rest it says nothing. */
 void say_rest(const char *name, uint64_t torn, uint64_t records, const char *outcome);
-
-/* An answer in the making. It is kept in memory, so that a film that breaks off leaves nothing half written. */
-struct page {
-    char *text;
-    size_t used;
-    size_t room;
-    bool broken; /* memory ran out: page_write says so */
-};
-
-void page_add(struct page *page, const char *format, ...) SAY_FORMAT(2, 3);
-
-/* Writes the page to the standard output. */
-enum status page_write(const struct page *page);
-
-void page_free(struct page *page);
-
-enum { NUMBER_ROOM = 32 };
-
-/* The shortest text that reads back as the same double; "nan" for every NaN. */
-void number_text(char out[NUMBER_ROOM], double value);
 
 #endif

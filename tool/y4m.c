@@ -1,62 +1,28 @@
 #include "film.h"
 
+#include "words.h"
+
 #include <errno.h>
+#include <inttypes.h>
 #include <stdlib.h>
 #include <string.h>
 
 enum colour { COLOUR_420, COLOUR_422, COLOUR_444, COLOUR_MONO };
-
-enum { LINE_ROOM = 1024 };
-
-/* What a header line turned out to be. */
-enum line { LINE_READ, LINE_NONE, LINE_CUT, LINE_LONG, LINE_FAULT };
-
-/* Reads up to a line end into `line`, without it. LINE_NONE: the file ended before the first byte, and `line` is not
-   set. LINE_LONG: no header has such a line; one with a zero byte counts as such. */
-static enum line read_line(FILE *file, char line[LINE_ROOM])
-{
-    size_t used = 0;
-    int c = getc(file);
-    if (c == EOF)
-        return ferror(file) ? LINE_FAULT : LINE_NONE;
-    while (c != '\n' && c != EOF) {
-        line[used] = '\0';
-        if (used + 1 == LINE_ROOM || c == '\0')
-            return LINE_LONG;
-        line[used++] = (char)c;
-        c = getc(file);
-    }
-    line[used] = '\0';
-    if (c == EOF)
-        return ferror(file) ? LINE_FAULT : LINE_CUT;
-    return LINE_READ;
-}
-
-static bool read_size(const char *digits, size_t *size)
-{
-    char *end = NULL;
-    if (digits[0] < '0' || digits[0] > '9')
-        return false;
-    errno = 0;
-    const unsigned long long value = strtoull(digits, &end, 10);
-    *size = (size_t)value;
-    return errno == 0 && *end == '\0';
-}
 
 /* Bits of a sample by what stands behind the colour's name: nothing, and a siting of C420, gives 8; C420p10 and Cmono10
    have 10. */
 static bool read_depth(struct film *film, const char *rest)
 {
     static const char *const sitings[] = {"jpeg", "mpeg2", "paldv"};
-    size_t bits = 8;
+    uint64_t bits = 8;
     bool known = rest[0] == '\0';
 
     for (size_t i = 0; i < sizeof sitings / sizeof sitings[0]; i++)
         known = known || (film->colour == COLOUR_420 && strcmp(rest, sitings[i]) == 0);
     if (!known && film->colour == COLOUR_MONO)
-        known = read_size(rest, &bits);
+        known = number_read(rest, &bits);
     else if (!known)
-        known = rest[0] == 'p' && read_size(rest + 1, &bits);
+        known = rest[0] == 'p' && number_read(rest + 1, &bits);
     film->depth = (uint32_t)bits;
     return known && bits > 0 && bits <= 64;
 }
@@ -78,33 +44,61 @@ static bool read_colour(struct film *film, const char *name)
     return false;
 }
 
-/* Takes one word of the header; words that say nothing about luma are passed over. */
-static enum status take_word(struct film *film, const char *word)
+/* A side too large for any number here is the largest one: the library refuses it like any other. */
+static bool read_side(const char *digits, size_t *side)
 {
-    if (word[0] == 'W' && !read_size(word + 1, &film->width))
-        return say_failed("%s: its width is not a number: %s", film->name, word);
-    if (word[0] == 'H' && !read_size(word + 1, &film->height))
-        return say_failed("%s: its height is not a number: %s", film->name, word);
+    uint64_t value = 0;
+    if (!number_read(digits, &value) && (digits[0] == '\0' || digits[strspn(digits, "0123456789")] != '\0'))
+        return false;
+    *side = value > SIZE_MAX ? SIZE_MAX : (size_t)value;
+    return true;
+}
+
+/* The frame rate as frames:seconds. Any other text, and 0:0, is one that is not known. */
+static void read_rate(struct film *film, char *text)
+{
+    uint64_t frames = 0, seconds = 0;
+    char *colon = strchr(text, ':');
+    if (colon == NULL)
+        return;
+    *colon = '\0';
+    const bool known = number_read(text, &frames) && number_read(colon + 1, &seconds) && frames > 0 && frames <= UINT32_MAX
+        && seconds > 0 && seconds <= UINT32_MAX;
+    film->rate = known ? (struct rate){(uint32_t)frames, (uint32_t)seconds} : (struct rate){0};
+}
+
+/* Takes one word of the header; words that say nothing about luma or time are passed over. */
+static enum status take_word(struct film *film, char *word)
+{
+    if (word[0] == 'W' && !read_side(word + 1, &film->width))
+        return say_failed("%s: its width is no number: %s", film->name, word);
+    if (word[0] == 'H' && !read_side(word + 1, &film->height))
+        return say_failed("%s: its height is no number: %s", film->name, word);
     if (word[0] == 'C' && !read_colour(film, word + 1))
         return say_failed("%s: its colour space %s is none of C420, C422, C444, Cmono", film->name, word);
+    if (word[0] == 'F')
+        read_rate(film, word + 1);
     return DONE;
 }
 
-static enum status read_header(struct film *film)
+/* What is wrong with a header line, or NULL. A film that was sent as a text has other line ends, and lost bytes with them. */
+static const char *line_fault(const struct line *line, enum line_read got)
 {
-    static const char magic[] = "YUV4MPEG2";
-    const size_t length = strlen(magic);
-    char line[LINE_ROOM];
-    bool width = false, height = false;
-    const enum line got = read_line(film->file, line);
-
     if (got == LINE_FAULT)
-        return say_failed("%s: %s", film->name, strerror(errno));
-    if (got == LINE_NONE || strncmp(line, magic, length) != 0 || (line[length] != ' ' && line[length] != '\0'))
-        return say_failed("%s: not a Y4M film (it does not begin with %s)", film->name, magic);
-    if (got != LINE_READ)
-        return say_failed("%s: its header line %s", film->name, got == LINE_CUT ? "is cut short" : "does not end");
-    for (char *word = strtok(line + length, " "); word != NULL; word = strtok(NULL, " ")) {
+        return strerror(errno);
+    if (got == LINE_NONE || got == LINE_OPEN)
+        return "it is cut short";
+    if (got == LINE_ZERO)
+        return "it holds a zero byte";
+    if (line->length > 0 && line->text[line->length - 1] == '\r')
+        return "it ends in CR LF, and a film's end in LF alone: was it sent as a text?";
+    return NULL;
+}
+
+static enum status take_words(struct film *film)
+{
+    bool width = false, height = false;
+    for (char *word = strtok(film->line.text, " "); word != NULL; word = strtok(NULL, " ")) {
         const enum status status = take_word(film, word);
         if (status != DONE)
             return status;
@@ -114,6 +108,27 @@ static enum status read_header(struct film *film)
     if (!width || !height)
         return say_failed("%s: its header names no %s", film->name, width ? "height" : "width");
     return DONE;
+}
+
+/* The first bytes are looked at alone, so that a large file of another kind is not taken for one long line. */
+static enum status read_header(struct film *film)
+{
+    char magic[] = "YUV4MPEG2";
+    const size_t length = strlen(magic);
+    const size_t got = fread(magic, 1, length, film->file);
+
+    if (ferror(film->file))
+        return say_failed("%s: %s", film->name, strerror(errno));
+    if (got != length || strcmp(magic, "YUV4MPEG2") != 0)
+        return say_failed("%s: not a Y4M film (it does not begin with YUV4MPEG2)", film->name);
+    const enum line_read read = line_read(&film->line, film->file);
+    const char *fault = line_fault(&film->line, read);
+    if (fault != NULL)
+        return say_failed("%s: its header line: %s", film->name, fault);
+    if (film->line.length > 0 && film->line.text[0] != ' ')
+        return say_failed("%s: not a Y4M film (it does not begin with YUV4MPEG2 and a blank)", film->name);
+    film->bytes = length + film->line.length + 1;
+    return take_words(film);
 }
 
 static size_t chroma_bytes(const struct film *film)
@@ -145,28 +160,49 @@ static bool skip(FILE *file, size_t bytes)
     return true;
 }
 
+/* Names the frame by its number and by its place in the film. */
 static enum fetched broken_frame(const struct film *film, const char *how)
 {
-    say_failed("%s: frame %llu %s", film->name, (unsigned long long)film->frames, how);
+    char place[64] = "";
+    if (film->first > 0)
+        snprintf(place, sizeof place, "frame %" PRIu64 " of the film, ", film->frames);
+    say_failed("%s: frame %" PRIu64 " (%sat byte %" PRIu64 "): %s", film->name, film->first + film->frames, place,
+               film->bytes, how);
     return BROKEN;
+}
+
+/* The line before a frame: FRAME, and perhaps words behind it, which say nothing about luma. */
+static enum fetched read_frame_line(struct film *film)
+{
+    char word[] = "FRAME";
+    const size_t length = strlen(word);
+    const size_t got = fread(word, 1, length, film->file);
+
+    if (ferror(film->file))
+        return broken_frame(film, strerror(errno));
+    if (got == 0)
+        return END;
+    if (strncmp(word, "FRAME", got) != 0)
+        return broken_frame(film, "it does not begin with FRAME");
+    if (got < length)
+        return broken_frame(film, "it is cut short");
+    const enum line_read read = line_read(&film->line, film->file);
+    const char *fault = line_fault(&film->line, read);
+    if (fault == NULL && film->line.length > 0 && film->line.text[0] != ' ')
+        fault = "it does not begin with FRAME";
+    return fault == NULL ? FRAME : broken_frame(film, fault);
 }
 
 static enum fetched next_y4m(struct film *film, uint8_t *luma)
 {
-    char line[LINE_ROOM];
-    const enum line got = read_line(film->file, line);
+    const size_t samples = film->width * film->height, chroma = chroma_bytes(film);
+    const enum fetched fetched = read_frame_line(film);
 
-    if (got == LINE_NONE)
-        return END;
-    if (got == LINE_FAULT)
-        return broken_frame(film, "cannot be read");
-    if (got == LINE_CUT)
-        return broken_frame(film, "is cut short");
-    if (got == LINE_LONG || strncmp(line, "FRAME", 5) != 0 || (line[5] != '\0' && line[5] != ' '))
-        return broken_frame(film, "does not begin with FRAME");
-    const size_t samples = film->width * film->height;
-    if (fread(luma, 1, samples, film->file) != samples || !skip(film->file, chroma_bytes(film)))
-        return broken_frame(film, ferror(film->file) ? "cannot be read" : "is cut short");
+    if (fetched != FRAME)
+        return fetched;
+    if (fread(luma, 1, samples, film->file) != samples || !skip(film->file, chroma))
+        return broken_frame(film, ferror(film->file) ? strerror(errno) : "it is cut short");
+    film->bytes += strlen("FRAME") + film->line.length + 1 + samples + chroma;
     film->frames++;
     return FRAME;
 }
@@ -187,6 +223,7 @@ enum status film_open_y4m(struct film *film, const char *path)
 
 void film_close(struct film *film)
 {
+    line_free(&film->line);
     if (film->file != NULL && film->file != stdin)
         fclose(film->file);
     film->file = NULL;

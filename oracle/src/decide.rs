@@ -29,7 +29,8 @@ pub fn write(seed: &str, folder: &str) -> io::Result<()> {
     fs::write(format!("{folder}/film.words"), words)
 }
 
-/// Whether the lines on the standard input are what the crate finds: number, cut, five numbers, release number.
+/// Whether the lines on the standard input are what the crate finds: number, cut, five numbers, release number; and that a large
+/// change is marked where it is no cut.
 pub fn compare(seed: &str) -> bool {
     let film = film(seed);
     let Some(found) = film.found() else { return false };
@@ -37,6 +38,8 @@ pub fn compare(seed: &str) -> bool {
     let count = film.frames.len();
     let mut release = 0;
     let mut good = lines.len() == count;
+    // Else a score may be another pair's, and the mark goes by the frame's own.
+    let own = film.settings[3] >= 5 && count >= 7;
     for (n, line) in lines.iter().enumerate() {
         let [.., ahead, mode, _, _] = film.settings;
         let set = (count + 1 - n).min(ahead as usize + 2);
@@ -46,7 +49,8 @@ pub fn compare(seed: &str) -> bool {
         }
         let cut = found.scene_changes.contains(&n);
         let due = found.scores.get(&n).map(score);
-        if !line_is(line, n, cut, due, release) {
+        let large = due.filter(|_| own).map(|[inter, .., threshold]| !cut && inter >= threshold);
+        if !line_is(line, n, cut, due, release, large) {
             println!("seed {seed}, frame {n}: cut {cut}, score {due:?}, release number {release}; the command wrote {line}");
             good = false;
         }
@@ -54,10 +58,13 @@ pub fn compare(seed: &str) -> bool {
     good
 }
 
-fn line_is(line: &str, n: usize, cut: bool, due: Option<[f64; 5]>, release: usize) -> bool {
+fn line_is(line: &str, n: usize, cut: bool, due: Option<[f64; 5]>, release: usize, large: Option<bool>) -> bool {
     let parts: Vec<&str> = line.split(',').collect();
     let head = format!("{n},{}", i32::from(cut));
-    if parts.len() != 8 || parts[..2].join(",") != head || parts[7] != release.to_string() {
+    if parts.len() != 9 || parts[..2].join(",") != head || parts[7] != release.to_string() {
+        return false;
+    }
+    if large.is_some_and(|is| parts[8] != i32::from(is).to_string()) {
         return false;
     }
     match due {

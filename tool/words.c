@@ -1,0 +1,37 @@
+#include "words.h"
+
+#include <errno.h>
+#include <stdlib.h>
+
+void words_start(void)
+{
+    opterr = 0;
+    optind = 0; /* the C library forgets what it read before */
+}
+
+int words_next(int count, char **words, const struct option *known)
+{
+    const int option = getopt_long(count, words, ":h", known, NULL);
+
+    if (option == ':')
+        say_usage("%s wants a value", words[optind - 1]);
+    else if (option == '?' && optopt >= WORDS_HELP)
+        say_usage("'%s': this option takes no value", words[optind - 1]);
+    else if (option == '?' && optopt > 0)
+        say_usage("%s has no option '-%c'", words[0], optopt);
+    else if (option == '?')
+        say_usage("%s has no option '%s'", words[0], words[optind - 1]);
+    else
+        return option == 'h' ? WORDS_HELP : option;
+    return WORDS_WRONG;
+}
+
+bool number_read(const char *text, uint64_t *number)
+{
+    char *end = NULL;
+    if (text[0] < '0' || text[0] > '9')
+        return false;
+    errno = 0;
+    *number = strtoull(text, &end, 10);
+    return errno == 0 && *end == '\0';
+}
