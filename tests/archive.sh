@@ -1,11 +1,13 @@
 #!/bin/sh
-# Tests of what a C program links: the archive's names, what a program needs, the header by itself, the pkg-config file.
-# ARCHIVE, NM and COMPILER come from the Makefile. Its last line is 'N passed, M failed'.
+# Tests of what a C program links: the archive's names and its float operations, what a program needs, the header by itself,
+# and the programs of the documents, linked as README.md says.
+# ARCHIVE, NM, OBJDUMP, COMPILER, STATIC, RUN, TARGET and MACHINE come from the Makefile. Its last line is 'N passed, M failed'.
 set -u
 SUITE=archive
 . "$(dirname "$0")/verdict.sh"
 
-build=$(dirname "$ARCHIVE")/..
+root=$(cd "$(dirname "$0")/.." && pwd -P)
+build=$(cd "$(dirname "$ARCHIVE")/.." && pwd -P)
 header=$build/include/brinepulley.h
 
 # The names that the archive shows are those that the header declares, and no others.
@@ -15,6 +17,26 @@ diff "$room/declared" "$room/shown" > "$room/log" 2>&1
 verdict "it shows the header's names alone" $?
 [ "$(wc -l < "$room/shown")" -ge 15 ]
 verdict "it shows all fifteen" $?
+
+# It is for TARGET. No product and sum are one operation, which would round once where the rules round twice.
+case $TARGET in
+    x86_64) format=elf64-x86-64 product='mulsd|mulpd' option=-mfma ;;
+    aarch64) format=elf64-littleaarch64 product=fmul option= ;;
+esac
+code() { "$OBJDUMP" -d --no-show-raw-insn "$1" 2> /dev/null; }
+fused() { grep -E '[[:space:]](fn?m(add|sub|la|ls)|vfn?m(add|sub)[a-z0-9]*)[[:space:]]' "$1"; }
+code "$ARCHIVE" > "$room/code"
+grep -q "file format $format\$" "$room/code"
+verdict "it is for $TARGET" $?
+grep -Eq "[[:space:]]($product)[[:space:]]" "$room/code"
+verdict "it has a float product" $?
+! fused "$room/code" > "$room/log"
+verdict "it has no fused float operation" $?
+echo 'double f(double a, double b, double c) { return __builtin_fma(a, b, c); }' > "$room/fused.c"
+# shellcheck disable=SC2086 # option may be empty
+$COMPILER -O2 $option -c -o "$room/fused.o" "$room/fused.c" > "$room/log" 2>&1 &&
+    code "$room/fused.o" > "$room/code" && fused "$room/code" > "$room/log"
+verdict "a fused operation would be seen" $?
 
 # What it wants of others is libc's: a program links with nothing more, and needs no other library.
 cat > "$room/one.c" << 'END'
@@ -44,15 +66,21 @@ if command -v c++ > /dev/null 2>&1; then
     verdict "the header's names are C's in C++ too" $?
 fi
 
-# The quick start's program, as it stands in README.md: it compiles without a warning and finds its cut.
-root=$(dirname "$0")/..
-awk '/^## /{ in_it = /^## Quick start in C/ } in_it && /^    / { print substr($0, 5) }' "$root/README.md" |
-    sed '/^}/q' > "$room/quick.c"
+# The quick start's program, as it stands in README.md, compiles without a warning.
+. "$(dirname "$0")/quick.sh"
+quick_program > "$room/quick.c"
 # shellcheck disable=SC2086 # words
-$COMPILER -std=c11 -Wall -Wextra -Werror -I"$build/include" $STATIC -o "$room/quick" "$room/quick.c" "$ARCHIVE" \
-    > "$room/log" 2>&1 && $RUN "$room/quick" > "$room/log" && grep -qx 'frame 5: 60, a cut' "$room/log" &&
-    grep -qx 'frames below 5 may be purged' "$room/log"
-verdict "the quick start's program" $?
+$COMPILER -std=c11 -Wall -Wextra -Werror -I"$build/include" $STATIC -o "$room/quick" "$room/quick.c" "$ARCHIVE" > "$room/log" 2>&1
+verdict "the quick start's program compiles without a warning" $?
+# It is built by README.md's own line, with README.md's own path, and finds its cut.
+quick_line > "$room/log"
+[ "$(wc -l < "$room/log")" = 1 ]
+verdict "README.md has the line that links" $?
+[ "$(quick_path)" = build/lib/pkgconfig ]
+verdict "README.md says where the pkg-config file is" $?
+mkdir "$room/quick start" && ln -s "$build" "$room/quick start/build"
+quick_start "$room/quick start" "$(quick_path)"
+verdict "the quick start, linked as README.md says" $?
 
 # The recorder's loop of docs/FORMATS.md, as it stands there: run again over a torn rest it refuses the numbers that are there.
 awk '/^## /{ in_it = /^## A recorder/ } in_it && /^    / { print substr($0, 5) } in_it && /^$/' "$root/docs/FORMATS.md" \
@@ -66,11 +94,5 @@ $RUN "$room/recorder" "$room/scores" && [ "$(wc -c < "$room/scores")" = 141 ] &&
 verdict "the recorder's loop goes over a torn rest" $?
 ! $RUN "$room/recorder" "$room/scores" && cmp -s "$room/scores" "$room/kept"
 verdict "the recorder's loop is refused, and the log stays" $?
-
-if command -v pkg-config > /dev/null 2>&1; then
-    PKG_CONFIG_PATH=$build/lib/pkgconfig pkg-config --cflags --libs brinepulley > "$room/log" 2>&1 &&
-        grep -q -- '-lbrinepulley' "$room/log"
-    verdict "the pkg-config file" $?
-fi
 
 count

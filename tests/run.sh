@@ -32,5 +32,6 @@ part() { # NAME WORDS..
 part 'library' $RUN "$CHECK"
 part 'command' sh "$here/command.sh"
 part 'archive' sh "$here/archive.sh"
+part 'build' sh "$here/build.sh"
 echo "$passed passed, $failed failed"
 [ "$failed" = 0 ]
