@@ -78,6 +78,7 @@ runs() { # LINE
 makes() { # LINE
     (
         cd "$root" && unset MAKEFLAGS MFLAGS MAKELEVEL ARCHIVE COMMAND FILM RUN
+        rm -f "$room/log"
         sh -c "make -n ${1#make }"
     ) > "$room/out" 2> "$room/err"
 }
