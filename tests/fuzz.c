@@ -1,6 +1,6 @@
-/* The fuzz run: films, pictures, costs, logs and command lines, whole and damaged, through the command itself. FUZZ_TARGET names one of the
-   targets below; fuzz.sh compiles this with the command and runs each for a while. No input may make the command crash, hang, leak
-   memory, end with a status of its own, fail without a word, write bytes that are no text, or spoil a file. */
+/* The fuzz run: films, pictures, costs, logs and command lines, whole and damaged, through the command itself. FUZZ_TARGET names one
+   of the targets below; fuzz.sh compiles this with the command and runs each for a while. No input may make the command crash, hang,
+   leak memory, end with a status of its own, fail without a word, write bytes that are no text, or spoil a file. */
 #include "fuzz_draw.h"
 
 #include "brinepulley.h"
