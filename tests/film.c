@@ -1,19 +1,23 @@
 /* Writes test films, pictures and logs to the standard output:
      film y4m WIDTH HEIGHT COLOUR LUMA...   a Y4M film, one frame for each LUMA; COLOUR - leaves its word out
+     film header WORDS LINE LUMA...         the same with these words behind YUV4MPEG2, which name sides and colour, and this line before
+                                            each frame; luma has a grain, and chroma is another in each byte, frame and header
      film pgm WIDTH HEIGHT LARGEST LUMA     a binary PGM picture
      film log NUMBER...                     a log, one record for each NUMBER, with a score of zeros and no cut
    LUMA is a number, or two as 16/17 for columns by turns. */
+#include <stdint.h>
 #include <stdio.h>
 #include <stdlib.h>
 #include <string.h>
 
-static void put_luma(const char *luma, size_t width, size_t height)
+/* With a grain a reader that takes another sample for the right one is found out: neighbours differ, by 7 at most. */
+static void put_luma(const char *luma, size_t width, size_t height, size_t grain)
 {
     const char *slash = strchr(luma, '/');
     const int even = atoi(luma), odd = slash == NULL ? even : atoi(slash + 1);
-    for (size_t i = 0; i < height; i++)
+    for (size_t y = 0; y < height; y++)
         for (size_t x = 0; x < width; x++)
-            putchar(x % 2 == 0 ? even : odd);
+            putchar((x % 2 == 0 ? even : odd) + (grain == 0 ? 0 : (int)((5 * x + 3 * y + grain) % 8)));
 }
 
 static size_t chroma_bytes(const char *colour, size_t width, size_t height)
@@ -35,9 +39,37 @@ static void put_film(size_t width, size_t height, const char *colour, int frames
     printf(" XNOTE=test\n");
     for (int i = 0; i < frames; i++) {
         printf(i % 3 == 2 ? "FRAME Ip\n" : "FRAME\n");
-        put_luma(luma[i], width, height);
+        put_luma(luma[i], width, height, 0);
         for (size_t k = 0; k < chroma_bytes(colour, width, height); k++)
             putchar((int)(i * 7 + 77) & 255);
+    }
+}
+
+/* What stands behind the letter in the word that begins with it; nothing where there is no such word. */
+static const char *behind(const char *words, char letter)
+{
+    for (const char *at = words; *at != '\0'; at++)
+        if (*at == letter && (at == words || at[-1] == ' '))
+            return at + 1;
+    return "";
+}
+
+static void put_encoded(const char *words, const char *line, int frames, char **luma)
+{
+    const size_t width = strtoul(behind(words, 'W'), NULL, 10), height = strtoul(behind(words, 'H'), NULL, 10);
+    const size_t chroma = chroma_bytes(behind(words, 'C'), width, height);
+    uint32_t drawn = 1;
+
+    for (const char *at = words; *at != '\0'; at++)
+        drawn = 31 * drawn + (unsigned char)*at;
+    printf("YUV4MPEG2 %s\n", words);
+    for (int i = 0; i < frames; i++) {
+        printf("%s\n", line);
+        put_luma(luma[i], width, height, 1 + 3 * (size_t)i);
+        for (size_t k = 0; k < chroma; k++) {
+            drawn = 1664525 * drawn + 1013904223;
+            putchar((int)(drawn >> 24));
+        }
     }
 }
 
@@ -59,6 +91,10 @@ int main(int count, char **words)
         put_log(count - 2, words + 2);
         return ferror(stdout) ? 2 : 0;
     }
+    if (count >= 4 && strcmp(words[1], "header") == 0) {
+        put_encoded(words[2], words[3], count - 4, words + 4);
+        return ferror(stdout) ? 2 : 0;
+    }
     if (count < 5)
         return 2;
     const size_t width = strtoul(words[2], NULL, 10), height = strtoul(words[3], NULL, 10);
@@ -66,7 +102,7 @@ int main(int count, char **words)
         put_film(width, height, words[4], count - 5, words + 5);
     } else if (count == 6) {
         printf("P5\n# a test picture\n%zu %zu\n%s\n", width, height, words[4]);
-        put_luma(words[5], width, height);
+        put_luma(words[5], width, height, 0);
     }
     return ferror(stdout) ? 2 : 0;
 }

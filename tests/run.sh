@@ -33,5 +33,6 @@ part 'library' $RUN "$CHECK"
 part 'command' sh "$here/command.sh"
 part 'archive' sh "$here/archive.sh"
 part 'build' sh "$here/build.sh"
+part 'documents' sh "$here/documents.sh"
 echo "$passed passed, $failed failed"
 [ "$failed" = 0 ]
