@@ -48,7 +48,7 @@ help:
 	@echo 'make bench             measure the speed'
 	@echo 'make clean             remove build/'
 	@echo
-	@echo 'TARGET=$(OTHER)         build for another machine than this one, under build/$(OTHER)/. Only then is anything installed,'
+	@printf '%-22s %s\n' 'TARGET=$(OTHER)' 'build for another machine than this one, under build/$(OTHER)/. Only then is anything installed,'
 	@echo '                       a compiler and an emulator from Debian, and that is said before it is done'
 	@echo 'INSTALL=no             stop where something would have to be installed'
 	@echo 'PREFIX=/usr/local      where to install, below DESTDIR if that is given'
