@@ -91,7 +91,7 @@ TESTS_KNOW = TARGET='$(TARGET)' MACHINE='$(MACHINE)' BUILD='$(BUILD)' RUN='$(RUN
 check-c: emulator lib $(COMMAND) $(CHECK) $(FILM) $(WATCHED)
 	@$(TESTS_KNOW) sh tests/run.sh
 
-fuzz: emulator lib $(COMMAND) $(FILM)
+fuzz: compiler lib $(COMMAND) $(FILM)
 	@$(TESTS_KNOW) sh tests/fuzz.sh
 
 test:
