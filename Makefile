@@ -48,7 +48,7 @@ help:
 	@echo 'make bench             measure the speed'
 	@echo 'make clean             remove build/'
 	@echo
-	@echo 'TARGET=$(OTHER)         build for another machine than this one, under build/$(OTHER)/. Only then is anything installed,'
+	@printf '%-22s %s\n' 'TARGET=$(OTHER)' 'build for another machine than this one, under build/$(OTHER)/. Only then is anything installed,'
 	@echo '                       a compiler and an emulator from Debian, and that is said before it is done'
 	@echo 'INSTALL=no             stop where something would have to be installed'
 	@echo 'PREFIX=/usr/local      where to install, below DESTDIR if that is given'
@@ -91,7 +91,7 @@ TESTS_KNOW = TARGET='$(TARGET)' MACHINE='$(MACHINE)' BUILD='$(BUILD)' RUN='$(RUN
 check-c: emulator lib $(COMMAND) $(CHECK) $(FILM) $(WATCHED)
 	@$(TESTS_KNOW) sh tests/run.sh
 
-fuzz: emulator lib $(COMMAND) $(FILM)
+fuzz: compiler lib $(COMMAND) $(FILM)
 	@$(TESTS_KNOW) sh tests/fuzz.sh
 
 test:
