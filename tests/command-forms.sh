@@ -1,10 +1,7 @@
-# Part of command.sh: the forms of an answer: large changes marked, --cuts, --bars, --times, and the texts of numbers. STORM is a film of
-# flat frames: a flash at 8, a change at 12, a squall in two steps at 24 and 27, a change in the last frame, 39.
+# Part of command.sh: the forms of an answer: large changes marked, --cuts, --bars, --times, and the texts of numbers. STORM is the film
+# of the documents: a flash at 8, a change at 12, a squall from 24 to 27, a change in the last frame, 39.
 storm=$room/storm.y4m
-# shellcheck disable=SC2046 # words
-film y4m 64 48 420jpeg $(awk 'BEGIN {
-    for (n = 0; n < 40; n++) print (n == 8 ? 120 : n < 12 ? 50 : n == 24 || n == 25 || n == 26 ? 140 : n == 39 ? 200 : 90 + n % 3)
-}') > "$storm"
+storm_film > "$storm"
 
 # Each change that reaches 18 and is no cut has its mark, near the film's end too, where no score is. The count stands at the end.
 marks() { awk -F, 'NR > 1 && $9 == 1 { printf "%s%s", sep, $1; sep = " " }' "$room/out"; }
@@ -95,7 +92,7 @@ verdict "the columns' order" $?
 command_run decide "$storm" --bars
 grep -qF '      8 #########|#########################        70        18 large         0' "$room/out" &&
     grep -qF '     12 #########|##########                       40        18 CUT           2' "$room/out" &&
-    grep -qF "     39 too near the film's end to tell           108        18 large        24" "$room/out" &&
+    grep -qF "     39 too near the film's end to tell           109        18 large        24" "$room/out" &&
     awk 'length($0) > 80 { exit 1 }' "$room/out" && [ "$(wc -l < "$room/out")" = 42 ]
 verdict "--bars" $?
 printf '%s\n' 45.6 0 1 1 1000 1 1 1 91.20000000000002 > "$room/edge.costs"

@@ -12,6 +12,7 @@ command_run() {
 }
 
 film() { $RUN "$FILM" "$@"; }
+. "$(dirname "$0")/films.sh"
 
 # A number of the header by its name.
 size() {
