@@ -156,7 +156,8 @@ enum brine_double {
 
 /* A fresh detector for frames of width * height samples, before Fast mode reduces them. `lookahead` is the lookahead distance:
  * 5 or more has the detector look five pairs ahead, less has it look at none. `min` and `max` are the distances of keyframes:
- * below `min` there is no cut, from `max` on there is one. Any number is taken for the three.
+ * below `min` there is no cut, from `max` on there is one, but for sets too short to decide on. Any number is taken for the
+ * three.
  * Returns 0, and all the numbers are written; there is no score yet, so `scores` is not written.
  * Refusals: 11, where numbers_len is not BRINE_NUMBERS or scores_len not BRINE_SCORES; 6; 5. Then nothing is written. */
 int64_t brine_detector_fresh(size_t width, size_t height, uint32_t depth, size_t lookahead, uint32_t mode,
