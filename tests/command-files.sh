@@ -14,6 +14,10 @@ printf 'YUV4MPEG2 W16 H16\r\nFRAME\r\n' > "$bad"
 ends "a film sent as a text" 2 "header line: it ends in CR LF" decide "$bad"
 printf 'YUV4MPEG2 W16 \000H16\nFRAME\n' > "$bad"
 ends "a zero byte in the header" 2 "header line: it holds a zero byte" decide "$bad"
+ends "zeros without end for a film" 2 "not a Y4M film" decide /dev/zero
+{ printf YUV4MPEG2; cat /dev/zero; } 2> /dev/null | $RUN "$COMMAND" decide - > "$room/out" 2> "$room/err"
+[ $? = 2 ] && grep -q 'standard input: its header line: it holds a zero byte' "$room/err"
+verdict "a film that goes on in zeros" $?
 printf 'YUV4MPEG22 W16 H16\nFRAME\n' > "$bad"
 ends "another word at the begin" 2 "not a Y4M film" decide "$bad"
 printf 'YUV4MPEG2 H16\n' > "$bad"
@@ -96,7 +100,8 @@ breaks "a cost that a terminal obeys" 2 "costs, line 2: '.x1B2' is no number" 1 
 awk 'BEGIN { print 1; while (n++ < 50) printf "word"; print "" }' > "$costs"
 breaks "a long line of costs" 2 "costs, line 2: '\(word\)\{10\}[.][.]' is no number" 1 $standard
 printf '1\n2\0000\n3\n' > "$costs"
-breaks "a zero byte in a cost" 2 "costs, line 2: '2' is no number" 1 $standard
+breaks "a zero byte in a cost" 2 "costs, line 2: it holds a zero byte" 1 $standard
+breaks "zeros without end for costs" 2 "/dev/zero, line 1: it holds a zero byte" 1 decide "$bad" --mode standard --inter /dev/zero
 printf '1\r\n2 \r\n3' > "$costs"
 command_run $standard
 [ "$status" = 0 ]

@@ -44,8 +44,10 @@ enum status costs_next(struct costs *costs, double *cost)
         return unread(costs);
     if (got == LINE_NONE)
         return say_failed("%s, line %" PRIu64 " is missing: the film has more frames", costs->path, costs->lines);
+    if (got == LINE_ZERO)
+        return say_failed("%s, line %" PRIu64 ": it holds a zero byte", costs->path, costs->lines);
     *cost = strtod(costs->line.text, &end);
-    if (got == LINE_ZERO || end == costs->line.text || end[strspn(end, " \t\r")] != '\0')
+    if (end == costs->line.text || end[strspn(end, " \t\r")] != '\0')
         return no_number(costs);
     return DONE;
 }
