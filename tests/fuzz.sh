@@ -22,7 +22,7 @@ room=$(mktemp -d -p /dev/shm 2> /dev/null || mktemp -d) || exit 2
 running=
 # shellcheck disable=SC2086 # numbers
 trap 'kill $running 2> /dev/null; rm -rf "$room"' EXIT
-trap 'exit 2' INT TERM HUP
+trap 'exit 2' INT TERM HUP PIPE
 
 # Debian's clang comes without the sanitizers' libraries: they are a package of their own.
 echo '#include <stddef.h>
