@@ -22,7 +22,7 @@ room=$(mktemp -d -p /dev/shm 2> /dev/null || mktemp -d) || exit 2
 running=
 # shellcheck disable=SC2086 # numbers
 trap 'kill $running 2> /dev/null; rm -rf "$room"' EXIT
-trap 'exit 2' INT TERM HUP
+trap 'exit 2' INT TERM HUP PIPE
 
 # Debian's clang comes without the sanitizers' libraries: they are a package of their own.
 echo '#include <stddef.h>
@@ -79,6 +79,8 @@ printf '%s\n' decide film.y4m --mode standard --inter costs.txt --log new.log --
 printf '%s\n' decide - --lookahead 3 --min 2 --max 9 --first 100 --purge --log scores.log | seed words log
 printf '%s\n' measure a.pgm b.pgm | seed words measure
 printf '%s\n' log scores.log --csv | seed words list
+printf '%s\n' decide film.y4m --inter . --mode standard --log . | seed words folder
+printf '%s\n' decide film.y4m --log . | seed words folder-log
 
 # Runs one target. The fuzzer's own words go to a file.
 start() { # TARGET
