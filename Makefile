@@ -137,7 +137,7 @@ $(FILM): $(BUILD)/tests/film.o
 
 # The command, with calls that tests/watch.c takes, writes down and lets fail.
 $(WATCHED): $(TOOL_OBJECTS) $(BUILD)/tests/watch.o $(ARCHIVE)
-	$(link) -Wl,--wrap=pwrite,--wrap=fdatasync,--wrap=fsync,--wrap=read $(TOOL_OBJECTS) $(BUILD)/tests/watch.o $(ARCHIVE)
+	$(link) -Wl,--wrap=pwrite,--wrap=fdatasync,--wrap=fsync,--wrap=read,--wrap=fopen $(TOOL_OBJECTS) $(BUILD)/tests/watch.o $(ARCHIVE)
 
 $(BUILD)/tool/main.o: private C_FLAGS += -DBRINEPULLEY_VERSION='"$(VERSION)"'
 $(BUILD)/tool/main.o: Makefile

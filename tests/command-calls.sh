@@ -73,6 +73,37 @@ stops_after() { # FAULT WORDS LINES CALL..
 stops_after 'fdatasync fails' "$log: record 0 at byte 0, frame 1: cannot be written" 1 fsync:"$room" write:0:47 sync
 stops_after 'fsync fails' "$log" 0 fsync:"$room"
 
+# Films and costs that cannot be read to their end: what was decided before stays, and the message says why. A frame has 262 bytes,
+# every third one 265.
+unreadable() { # NAME FILE BYTES WORDS LINES ARGUMENTS..
+    name=$1 file=$2 bytes=$3 words=$4 lines=$5
+    shift 5
+    env WATCH_BROKEN="$file" WATCH_BYTES="$bytes" $RUN "$WATCHED" decide --csv "$@" > "$room/out" 2> "$room/err"
+    [ $? = 2 ] && [ "$(cat "$room/err")" = "brinepulley: $file$words: Input/output error" ] &&
+        [ "$(wc -l < "$room/out")" = $((lines == 0 ? 0 : lines + 1)) ]
+    verdict "$name" $?
+}
+film=$room/rest0.y4m
+unreadable "a film that cannot be read" "$film" 0 "" 0 "$film"
+unreadable "a header that cannot be read" "$film" 20 ": its header line" 0 "$film"
+at=$(($(film y4m 16 16 mono | wc -c) + 7 * 262 + 2 * 3))
+[ "$(tail -c +$((at + 1)) "$film" | head -c 5)" = FRAME ]
+verdict "where the eighth frame begins" $?
+for more in 0 3 6 100; do
+    unreadable "a film that cannot be read $more bytes into a frame" "$film" $((at + more)) ": frame 7 (at byte $at)" 2 "$film"
+done
+printf '%s\n' 1 2 3 4 5 6 7 8 9 > "$costs"
+unreadable "costs that cannot be read" "$costs" 0 ", line 1" 1 "$film" --mode standard --inter "$costs"
+unreadable "costs that cannot be read further" "$costs" 14 ", line 8" 3 "$film" --mode standard --inter "$costs"
+unreadable "costs that cannot be read in a line" "$costs" 15 ", line 8" 3 "$film" --mode standard --inter "$costs"
+unreadable "costs whose end cannot be read" "$costs" 18 ", line 10" 10 "$film" --mode standard --inter "$costs"
+film pgm 16 16 255 50 > "$room/p.pgm"
+for bytes in 0 5 100; do
+    env WATCH_BROKEN="$room/p.pgm" WATCH_BYTES="$bytes" $RUN "$WATCHED" measure "$room/p.pgm" "$room/p.pgm" > "$room/out" 2> "$room/err"
+    [ $? = 2 ] && [ ! -s "$room/out" ] && [ "$(cat "$room/err")" = "brinepulley: $room/p.pgm: Input/output error" ]
+    verdict "a picture that cannot be read behind $bytes bytes" $?
+done
+
 # Another command appends while a log is read. Of the old rest the mark and the low byte of frame 2 were read before that; the record
 # of frame 256 goes over the rest. Both together would be frame 258, which nobody wrote.
 grows() { # NAME NUMBER..: of records in front, which the shell has passed over

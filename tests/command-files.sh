@@ -3,7 +3,7 @@ bad=$room/bad.y4m
 short=$room/short.y4m
 
 ends "a missing film" 2 "No such file" decide "$room/none.y4m"
-ends "a folder for a film" 2 "$room" decide "$room"
+ends "a folder for a film" 2 "$room: Is a directory" decide "$room"
 : > "$bad"
 ends "an empty film" 2 "not a Y4M film" decide "$bad"
 echo 'RIFF and so on' > "$bad"
@@ -55,6 +55,9 @@ breaks "a zero byte behind FRAME" 2 "frame 10 (at byte 3958): it holds a zero by
 
 # What a terminal would obey does not reach it. Letters of other alphabets do.
 printf 'YUV4MPEG2 W1\033[2J\233\302\233\177 H16\n' > "$bad"
+printf 'YUV4MPEG2 W1\340\200\200\355\240\200\360\200\200\200\364\220\200\200\342\202 H1\n' > "$room/wrong.y4m"
+ends "bytes that are no letters" 2 \
+    'W1\\xE0\\x80\\x80\\xED\\xA0\\x80\\xF0\\x80\\x80\\x80\\xF4\\x90\\x80\\x80\\xE2\\x82$' decide "$room/wrong.y4m"
 ends "bytes that a terminal obeys" 2 'its width is no number: W1\\x1B\[2J\\x9B\\xC2\\x9B\\x7F$' decide "$bad"
 cp "$bad" "$room/größe Ж.y4m"
 ends "a name in other letters" 2 "größe Ж.y4m: its width" decide "$room/größe Ж.y4m"
@@ -108,7 +111,7 @@ command_run $standard
 verdict "costs with CR LF, and without a last line end" $?
 ends "a folder for costs" 2 "$room: Is a directory" decide "$bad" --mode standard --inter "$room"
 printf '1\n2\n3\n4\n' > "$costs"
-breaks "a line of costs too many" 2 "costs, line 4 is one too many" 1 $standard
+breaks "a line of costs too many" 2 "costs, line 4 is one too many" 4 $standard
 for cost in -1 nan inf -inf; do
     printf '1\n%s\n3\n' "$cost" > "$costs"
     breaks "a cost of $cost is refused" 1 "costs, line 2: $cost is no cost (refusal 10)" 1 $standard
@@ -133,6 +136,10 @@ printf 'P5 16 x 255\n' > "$q"
 ends "a PGM header that is none" 2 "PGM header" measure "$p" "$q"
 ends "a folder for a picture" 2 "$room: Is a directory" measure "$p" "$room"
 ends "a folder for the first picture" 2 "$room: Is a directory" measure "$room" "$p"
+for largest in 254 65536; do
+    film pgm 16 16 $largest 50 > "$q"
+    ends "a largest value of $largest" 2 "largest value is $largest, not 255" measure "$p" "$q"
+done
 film pgm 16 16 100 50 > "$q"
 ends "a largest value of 100" 2 "largest value is 100" measure "$p" "$q"
 head -c 100 "$p" > "$q"
@@ -155,3 +162,4 @@ done << 'END'
 END
 printf 'P5 4 1 65535\nabcdefgh' > "$q"
 ends "samples of 16 bits are refused" 1 "q.pgm: samples of 16 bits, and only 8 are taken (refusal 5)" measure "$p" "$q"
+ends "samples of 16 bits, in the first picture" 1 "q.pgm: samples of 16 bits, and only 8 are taken (refusal 5)" measure "$q" "$p"

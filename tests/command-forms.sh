@@ -35,12 +35,29 @@ command_run log "$room/storm.log"
     [ "$(tail -n 1 "$room/out")" = "35 records, 1 cut, 4 large changes that are no cut" ]
 verdict "large changes in a log" $?
 
+# One is told of as one. A cost of 0 is no change, though the threshold of even grey is 0.
+film y4m 16 16 mono 50 50 50 50 50 90 > "$room/edge.y4m"
+command_run decide "$room/edge.y4m"
+[ "$(tail -n 1 "$room/out")" = "6 frames, 0 cuts, 1 large change that is no cut" ]
+verdict "one large change, for people" $?
+command_run decide "$room/edge.y4m" --csv
+[ "$(cat "$room/err")" = "brinepulley: $room/edge.y4m: 1 frame is a large change and no cut" ]
+verdict "one large change, for machines" $?
+film y4m 16 16 mono 128 128 128 128 128 128 128 128 > "$room/fog.y4m"
+printf '%s\n' 0 0 0 0 0 0.5 0 > "$room/fog.costs"
+command_run decide "$room/fog.y4m" --csv --mode standard --inter "$room/fog.costs"
+[ "$status" = 0 ] && [ "$(marks)" = 6 ]
+verdict "even grey: the mark asks for a change" $?
+
 # A lookahead below 5 is told of, and the answer is the same as ever.
 for ahead in 1 4 5; do
     command_run decide "$flat" --lookahead "$ahead"
     [ "$status" = 0 ] && [ "$(grep -c 'a lookahead below 5' "$room/err")" = "$((ahead < 5))" ]
     verdict "a note on lookahead $ahead" $?
 done
+command_run decide "$flat" --lookahead 1 --mode none
+[ "$(cat "$room/err")" = "brinepulley: a lookahead below 5: no frame may be purged" ]
+verdict "a note on lookahead 1 in none mode" $?
 
 # Scenes.
 printf '%s\n' '  first      last    frames          time' '      0        11        12   0:00:00.000' \
@@ -95,6 +112,17 @@ grep -qF '      8 #########|#########################        70        18 large 
     grep -qF "     39 too near the film's end to tell           109        18 large        24" "$room/out" &&
     awk 'length($0) > 80 { exit 1 }' "$room/out" && [ "$(wc -l < "$room/out")" = 42 ]
 verdict "--bars" $?
+film y4m 16 16 mono 50 50 50 122 50 50 50 123 50 50 50 50 > "$room/edge.y4m"
+command_run decide "$room/edge.y4m" --bars
+grep -qF '      3 #########|##########################       72        18 large' "$room/out" &&
+    grep -qF '      7 #########|#########################>       73        18 large' "$room/out"
+verdict "--bars, the longest bar" $?
+printf '%s\n' 0 0.5 0 0 0 0 0 > "$room/fog.costs"
+command_run decide "$room/fog.y4m" --bars --mode standard --inter "$room/fog.costs"
+grep -qF '      1          |                                  0         0 no cut' "$room/out" &&
+    grep -qF '      2 #########|#########################>      0.5         0 large' "$room/out"
+verdict "--bars, a threshold of 0" $?
+film y4m 64 48 mono 90 90 90 90 90 90 90 90 90 90 > "$room/edge.y4m"
 printf '%s\n' 45.6 0 1 1 1000 1 1 1 91.20000000000002 > "$room/edge.costs"
 command_run decide "$room/edge.y4m" --bars --times --mode standard --inter "$room/edge.costs"
 grep -qF '      1 #####    |                               45.6      91.2 no cut        0   0:10:00.000' "$room/out" &&

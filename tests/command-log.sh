@@ -145,6 +145,14 @@ $RUN "$COMMAND" decide "$tiny" --lookahead 1 --log "$log" > "$log" 2> "$room/err
 [ $? = 2 ] && grep -q "and this is the standard output" "$room/err" && [ ! -s "$log" ]
 verdict "a log that is the standard output" $?
 
+rm -f "$log"
+$RUN "$COMMAND" decide "$flat" --log "$log" > "$room/out" 2> "$log"
+[ $? = 2 ] && [ ! -s "$log" ] && [ ! -s "$room/out" ]
+verdict "a log that is the standard error" $?
+$RUN "$COMMAND" log - <&- > "$room/out" 2> "$room/err"
+[ $? = 2 ] && [ ! -s "$room/out" ] && grep -q 'standard input: ' "$room/err"
+verdict "a log from a standard input that is closed" $?
+
 # Files that cannot be a log.
 ends "--log without its value" 2 "--log wants a value" decide "$flat" --log
 for other in - ''; do

@@ -31,7 +31,7 @@ for ahead in 5 7; do
             head -c $((frame_bytes + (given % 3 == 2) * 3)) >&9
         given=$((given + 1))
         decided=$((given > ahead + 1 ? given - ahead - 1 : 0))
-        lines_come "$room/fed" $((decided + 2)) && head -n $((decided + 2)) "$room/lines" | cmp -s - "$room/fed" ||
+        [ -z "$late" ] && lines_come "$room/fed" $((decided + 2)) && head -n $((decided + 2)) "$room/lines" | cmp -s - "$room/fed" ||
             late="$late $given"
     done
     echo "late:$late" > "$room/log"
@@ -46,6 +46,24 @@ for ahead in 5 7; do
     verdict "a film that breaks off, lookahead $ahead" $?
 done
 rm -f "$room/log"
+
+# A film and its costs from one writer, by turns: a cost is not waited for before it is due.
+rm -f "$pipe" "$room/costs.pipe"
+mkfifo "$pipe" "$room/costs.pipe"
+film y4m 320 240 mono 50 50 50 50 50 50 50 50 50 50 > "$room/wide.y4m"
+{
+    exec 7> "$pipe" 8> "$room/costs.pipe"
+    head -c 200000 "$room/wide.y4m" >&7
+    printf '%s\n' 1 2 3 4 5 6 7 8 9 >&8
+    tail -c +200001 "$room/wide.y4m" >&7
+} &
+writer=$!
+$RUN "$COMMAND" decide "$pipe" --mode standard --inter "$room/costs.pipe" > "$room/out" 2> "$room/err" &
+process=$!
+lines_come "$room/out" 12
+verdict "a film and its costs through two pipes" $?
+kill "$process" "$writer" 2> /dev/null
+wait
 
 # A film without end, of letters for samples.
 endless() { # FRAMES, 0 for no end
@@ -72,4 +90,9 @@ if [ -z "$RUN" ]; then
     endless 600000 | (ulimit -v 16000 && "$COMMAND" decide - --csv > "$room/out" 2> "$room/err")
     [ $? = 0 ] && [ "$(wc -l < "$room/out")" = 600001 ] && [ "$(wc -c < "$room/out")" -gt 17000000 ]
     verdict "a long film in little memory" $?
+    if [ -w /dev/full ]; then
+        endless 600000 | (ulimit -v 16000 && "$COMMAND" decide - --mode none --log "$room/none.log" > /dev/full 2> "$room/err")
+        [ $? = 2 ] && [ "$(wc -l < "$room/err")" = 1 ] && grep -q 'No space left' "$room/err"
+        verdict "lines that are lost take no memory" $?
+    fi
 fi

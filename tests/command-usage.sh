@@ -27,6 +27,7 @@ ends "no command" 2 "which command"
 ends "an unknown command" 2 "no command 'dance'" dance
 ends "an unknown option" 2 "decide has no option '--fast'" decide "$a" --fast
 ends "an unknown letter" 2 "decide has no option '-x'" decide "$a" -x
+ends "an unknown letter of another alphabet" 2 "decide has no option '-.xC3'" decide "$a" -é
 ends "an unknown option with a value" 2 "decide has no option '--speed=9'" decide "$a" --speed=9
 ends "the beginning of several options" 2 "decide has no option '--m'" decide "$a" --m 3
 ends "a switch with a value" 2 "'--csv=1': this option takes no value" decide "$a" --csv=1

@@ -1,7 +1,9 @@
 /* Calls that the linker leads here instead of to libc (--wrap, in the Makefile). They are made as asked, save for:
      WATCH_CALLS=FILE   each call of pwrite, fdatasync and fsync is written to FILE, with the inode of the file that it is for
      WATCH_FAULT=NAME   the first call that has a fault of this name below has it
-     WATCH_LATER=FILE   the first read is short, and before the second the bytes of FILE go over the file that is read */
+     WATCH_LATER=FILE   the first read is short, and before the second the bytes of FILE go over the file that is read
+     WATCH_BROKEN=NAME  a file that is opened by this name cannot be read further than the first WATCH_BYTES bytes */
+#define _GNU_SOURCE /* fopencookie */
 #include <errno.h>
 #include <stdarg.h>
 #include <stdbool.h>
@@ -21,6 +23,8 @@ int __real_fsync(int file);
 int __wrap_fsync(int file);
 ssize_t __real_read(int file, void *bytes, size_t count);
 ssize_t __wrap_read(int file, void *bytes, size_t count);
+FILE *__real_fopen(const char *path, const char *mode);
+FILE *__wrap_fopen(const char *path, const char *mode);
 
 static void note(const char *call, int file, const char *format, ...)
 {
@@ -101,4 +105,40 @@ ssize_t __wrap_read(int file, void *bytes, size_t count)
     if (reads == 2)
         put_over(file, later);
     return __real_read(file, bytes, reads == 1 && count > SHORT_READ ? SHORT_READ : count);
+}
+
+/* A file on a card that goes bad: behind so many bytes each read fails. */
+struct broken {
+    FILE *file;
+    size_t left;
+};
+
+static ssize_t broken_read(void *cookie, char *bytes, size_t count)
+{
+    struct broken *broken = cookie;
+    const size_t part = count < broken->left ? count : broken->left;
+    const size_t got = fread(bytes, 1, part, broken->file);
+    broken->left -= got;
+    return got == 0 && part == 0 ? failed(EIO) : (ssize_t)got;
+}
+
+static int broken_close(void *cookie)
+{
+    struct broken *broken = cookie;
+    const int closed = fclose(broken->file);
+    free(broken);
+    return closed;
+}
+
+FILE *__wrap_fopen(const char *path, const char *mode)
+{
+    const char *name = getenv("WATCH_BROKEN"), *bytes = getenv("WATCH_BYTES");
+    FILE *file = __real_fopen(path, mode);
+    if (file == NULL || name == NULL || bytes == NULL || strcmp(name, path) != 0)
+        return file;
+    struct broken *broken = malloc(sizeof *broken);
+    if (broken == NULL)
+        abort();
+    *broken = (struct broken){file, strtoul(bytes, NULL, 10)};
+    return fopencookie(broken, mode, (cookie_io_functions_t){.read = broken_read, .close = broken_close});
 }

@@ -6,19 +6,18 @@
 #include <inttypes.h>
 #include <stdlib.h>
 #include <string.h>
+#include <sys/stat.h>
 
-/* A file that cannot be read, as a folder, is found at once: before a frame is decided on. */
+/* A folder can be opened and not read: that is found before a frame is decided on. Nothing is read here, since a pipe may have its first
+   line later. */
 enum status costs_open(struct costs *costs, const char *path)
 {
+    struct stat about;
     *costs = (struct costs){.path = path, .file = fopen(path, "r")};
-    const int first = costs->file == NULL ? EOF : getc(costs->file);
-    if (first != EOF)
-        ungetc(first, costs->file);
-    if (costs->file != NULL && !ferror(costs->file))
-        return DONE;
-    const enum status status = say_failed("%s: %s", path, strerror(errno));
-    costs_close(costs);
-    return status;
+    if (costs->file == NULL)
+        return say_failed("%s: %s", path, strerror(errno));
+    const bool folder = fstat(fileno(costs->file), &about) == 0 && S_ISDIR(about.st_mode);
+    return folder ? say_failed("%s: %s", path, strerror(EISDIR)) : DONE;
 }
 
 /* A long line is shown by its beginning. */

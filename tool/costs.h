@@ -11,6 +11,7 @@ struct costs {
     struct line line;
 };
 
+/* costs_close is due whatever comes of it. */
 enum status costs_open(struct costs *costs, const char *path);
 
 /* The next pair's cost, any number: the library judges it. A missing or malformed line is a fault. */

@@ -31,14 +31,11 @@ static enum status decide_film(const struct options *options, struct film *film)
 {
     struct costs costs = {0};
     struct desk desk = {.journal = {.file = -1}, .log = options->log, .film = film, .costs = &costs};
+    enum status status = options->inter == NULL ? DONE : costs_open(&costs, options->inter);
 
-    if (options->inter != NULL) {
-        const enum status status = costs_open(&costs, options->inter);
-        if (status != DONE)
-            return status;
-    }
     report_start(&desk.report, options, film);
-    const enum status status = drive(film, &costs, &options->settings, desk_take, &desk);
+    if (status == DONE)
+        status = drive(film, &costs, &options->settings, desk_take, &desk);
     costs_close(&costs);
     journal_close(&desk.journal);
     return report_end(&desk.report, status);
@@ -50,8 +47,10 @@ static enum status look_at(const struct options *options, const struct film *fil
     if (options->times && film->rate.frames == 0)
         return say_failed("%s: its header names no frame rate, so there are no times", film->name);
     if (options->settings.lookahead < FULL_LOOKAHEAD)
-        say_note("a lookahead below 5: the first lines show the next frame's score, changes are missed or found a frame early, "
-                 "and no frame may be purged");
+        say_note("a lookahead below 5: %sno frame may be purged",
+                 options->settings.mode == BRINE_MODE_NONE
+                     ? ""
+                     : "the first lines show the next frame's score, changes are missed or found a frame early, and ");
     return DONE;
 }
 

@@ -44,7 +44,7 @@ static enum status fill(struct driver *driver, struct gauge *gauge)
         if (status != DONE)
             return status;
         if (driver->ended)
-            return costs_end(gauge->costs);
+            return DONE;
         driver->inter[driver->pairs] = pair.inter;
         driver->importance[driver->pairs] = pair.importance;
         driver->threshold[driver->pairs] = pair.threshold;
@@ -112,7 +112,9 @@ static enum status decide_all(struct driver *driver, struct gauge *gauge, verdic
     for (uint64_t frame = first + 1; status == DONE; frame++) {
         struct verdict verdict = {.frame = frame};
         status = fill(driver, gauge);
-        if (status != DONE || driver->pairs == 0)
+        if (status == DONE && driver->pairs == 0)
+            return costs_end(gauge->costs);
+        if (status != DONE)
             return status;
         status = step(driver, gauge, previous, &verdict);
         if (status == DONE)

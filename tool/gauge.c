@@ -10,7 +10,7 @@ enum { FAST_THRESHOLD = 18 };
 
 bool pair_is_large(const struct pair *pair)
 {
-    return pair->inter >= pair->threshold;
+    return pair->inter > 0 && pair->inter >= pair->threshold;
 }
 
 static bool make_room(struct gauge *gauge)

@@ -12,7 +12,7 @@ struct pair {
     double threshold;
 };
 
-/* Whether the inter cost reaches the threshold. */
+/* Whether the inter cost reaches the threshold. A cost of 0 is no change, though a threshold can be 0 too. */
 bool pair_is_large(const struct pair *pair);
 
 struct gauge {

@@ -54,11 +54,14 @@ static bool is_same(const struct stat *log, int other)
     return fstat(other, &about) == 0 && about.st_dev == log->st_dev && about.st_ino == log->st_ino;
 }
 
-/* A record would go over what is read, and the answer over the records. */
+/* A record would go over what is read, and the answer, or a message, over the records. */
 static enum status stands_apart(const struct journal *journal, const struct stat *log, const struct film *film,
                                 const struct costs *costs)
 {
     const char *what = NULL;
+    /* A word about it would go into the log. */
+    if (is_same(log, STDERR_FILENO))
+        return FAILED;
     if (is_same(log, fileno(film->file)))
         what = "film";
     else if (costs->file != NULL && is_same(log, fileno(costs->file)))

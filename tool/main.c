@@ -19,19 +19,16 @@ static enum status write_version(void)
 }
 
 /* A file that is opened takes the place of a standard stream that is closed, and what is meant for the stream would go into
-   it. So each such place is taken by a file that cannot be written. */
+   it. So each such place is taken by a file that cannot be written, and that of the standard input by one that cannot be read. */
 static void take_places(void)
 {
-    int file = 0;
-    while (file >= 0 && file <= STDERR_FILENO)
-        file = open("/dev/null", O_RDONLY);
-    if (file >= 0)
-        close(file);
+    for (int place = STDIN_FILENO; place <= STDERR_FILENO; place++)
+        if (fcntl(place, F_GETFD) < 0)
+            open("/dev/null", place == STDIN_FILENO ? O_WRONLY : O_RDONLY);
 }
 
-int main(int count, char **words)
+static enum status run(int count, char **words)
 {
-    take_places();
     if (count < 2)
         return say_usage("which command: decide, log, measure or demo?");
     const char *command = words[1];
@@ -48,4 +45,10 @@ int main(int count, char **words)
     if (strcmp(command, "demo") == 0)
         return command_demo(count - 1, words + 1);
     return say_usage("there is no command '%s'", command);
+}
+
+int main(int count, char **words)
+{
+    take_places();
+    return (int)run(count, words);
 }

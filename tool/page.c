@@ -42,10 +42,10 @@ enum status page_write(struct page *page)
     if (page->broken)
         return say_failed("not enough memory for the answer");
     const size_t written = page->used == 0 ? 0 : fwrite(page->text, 1, page->used, stdout);
-    if (written == page->used && fflush(stdout) == 0) {
-        page->used = 0;
+    const bool done = written == page->used && fflush(stdout) == 0;
+    page->used = 0;
+    if (done)
         return DONE;
-    }
     page->gone = errno == EPIPE;
     return page->gone ? FAILED : say_failed("cannot write the answer to the standard output: %s", strerror(errno));
 }

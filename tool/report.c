@@ -98,8 +98,10 @@ static void add_scene(struct report *report, uint64_t end, bool known)
 
 static enum status put(struct report *report)
 {
-    report->lost = report->lost || page_write(&report->page) != DONE;
-    report->page.used = 0;
+    if (report->lost)
+        report->page.used = 0;
+    else
+        report->lost = page_write(&report->page) != DONE;
     const bool goes_on = report->options->log != NULL && !report->page.gone;
     return report->lost && !goes_on ? FAILED : DONE;
 }
@@ -108,8 +110,7 @@ static void tell_progress(struct report *report)
 {
     if (!report->watched || report->frames < LONG_FILM || report->frames % PROGRESS_EVERY != 0)
         return;
-    fprintf(stderr, "\r%" PRIu64 " frames, %" PRIu64 " cuts ", report->frames, report->cuts);
-    report->told = true;
+    say_progress("%" PRIu64 " frames, %" PRIu64 " cuts", report->frames, report->cuts);
 }
 
 enum status report_take(void *taker, const struct verdict *verdict)
@@ -147,8 +148,7 @@ static void add_end(struct report *report)
 
 enum status report_end(struct report *report, enum status status)
 {
-    if (report->told)
-        fputs("\r                                                  \r", stderr);
+    say_progress("%s", "");
     if (!report->lost && report->frames > 0) {
         if (report->options->form == FORM_CUTS)
             add_scene(report, report->film->first + report->frames, status == DONE);

@@ -12,7 +12,6 @@ struct report {
     uint64_t kept;    /* the film's frames below it were named as ones that may go */
     uint64_t scene;   /* where the scene in hand began */
     bool watched;     /* someone watches the standard error, and does not see the lines: tell of progress */
-    bool told;        /* a progress line stands there */
     uint64_t frames;
     uint64_t cuts; /* the first frame's not counted */
     uint64_t large;

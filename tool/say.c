@@ -3,7 +3,6 @@
 #include <inttypes.h>
 #include <stdarg.h>
 #include <stdio.h>
-#include <string.h>
 
 enum { TEXT_ROOM = 8192, ESCAPE = 4 }; /* an escape is \xNN */
 
@@ -37,12 +36,26 @@ static void escape(char *out, const char *text)
     *out = '\0';
 }
 
+/* How many letters of progress stand on the line. */
+static int progress = 0;
+
+void say_progress(const char *format, ...)
+{
+    va_list words;
+    if (progress > 0)
+        fprintf(stderr, "\r%*s\r", progress, "");
+    va_start(words, format);
+    progress = vfprintf(stderr, format, words);
+    va_end(words);
+}
+
 static void say_line(const char *format, va_list words, const char *end)
 {
     char text[TEXT_ROOM], shown[ESCAPE * TEXT_ROOM];
     if (vsnprintf(text, sizeof text, format, words) < 0)
         return;
     escape(shown, text);
+    say_progress("%s", "");
     fprintf(stderr, "brinepulley: %s%s\n", shown, end);
 }
 

@@ -42,6 +42,9 @@ enum status say_refused(int64_t answer, const char *format, ...) SAY_FORMAT(2, 3
 /* A remark: the command goes on. */
 void say_note(const char *format, ...) SAY_FORMAT(1, 2);
 
+/* How far the command is, on a line without an end: the next thing that is said takes its place. */
+void say_progress(const char *format, ...) SAY_FORMAT(1, 2);
+
 /* Says that a log has a torn rest, behind how many records, and what comes of it. Without a rest it says nothing. */
 void say_rest(const char *name, uint64_t torn, uint64_t records, const char *outcome);
 

@@ -17,8 +17,8 @@ int words_next(int count, char **words, const struct option *known)
         say_usage("%s wants a value", words[optind - 1]);
     else if (option == '?' && optopt >= WORDS_HELP)
         say_usage("'%s': this option takes no value", words[optind - 1]);
-    else if (option == '?' && optopt > 0)
-        say_usage("%s has no option '-%c'", words[0], optopt);
+    else if (option == '?' && optopt != 0)
+        say_usage("%s has no option '-%c'", words[0], (unsigned char)optopt);
     else if (option == '?')
         say_usage("%s has no option '%s'", words[0], words[optind - 1]);
     else
