@@ -52,7 +52,7 @@ rm -f "$pipe" "$room/costs.pipe"
 mkfifo "$pipe" "$room/costs.pipe"
 film y4m 320 240 mono 50 50 50 50 50 50 50 50 50 50 > "$room/wide.y4m"
 {
-    exec 7> "$pipe" 8> "$room/costs.pipe"
+    exec 7<> "$pipe" 8<> "$room/costs.pipe"
     head -c 200000 "$room/wide.y4m" >&7
     printf '%s\n' 1 2 3 4 5 6 7 8 9 >&8
     tail -c +200001 "$room/wide.y4m" >&7

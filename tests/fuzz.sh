@@ -6,10 +6,10 @@
 set -u
 seconds=${FUZZ_SECONDS:-60}
 clang=${CLANG:-clang}
-root=$(cd "$(dirname "$0")/.." && pwd)
-place=$root/build/fuzz
+cd "$(dirname "$0")/.." || exit 2
+place=$(pwd)/build/fuzz
 sanitizers='-fsanitize=fuzzer,address,undefined -fno-sanitize-recover=all'
-flags="-std=c11 -D_POSIX_C_SOURCE=200809L -Wall -Wextra -I$root/include -O1 -g"
+flags="-std=c11 -D_POSIX_C_SOURCE=200809L -Wall -Wextra -Iinclude -O1 -g"
 targets='film sides costs pictures log words'
 
 stop() { echo "fuzz: $*" >&2; exit 2; }
@@ -34,9 +34,9 @@ int LLVMFuzzerTestOneInput(const void *at, size_t count); int LLVMFuzzerTestOneI
 
 mkdir -p "$place"
 # shellcheck disable=SC2086,SC2046 # words
-"$clang" $flags $sanitizers -Dmain=command_main -DBRINEPULLEY_VERSION='"0.0.0"' -c -o "$place/main.o" "$root/tool/main.c" &&
-    "$clang" $flags $sanitizers -o "$place/fuzzer" "$place/main.o" "$root"/tests/fuzz*.c \
-        $(find "$root/tool" -name '*.c' ! -name main.c) "$ARCHIVE" || stop 'it does not compile'
+"$clang" $flags $sanitizers -Dmain=command_main -DBRINEPULLEY_VERSION='"0.0.0"' -c -o "$place/main.o" tool/main.c &&
+    "$clang" $flags $sanitizers -o "$place/fuzzer" "$place/main.o" tests/fuzz*.c \
+        $(find tool -name '*.c' ! -name main.c) "$ARCHIVE" || stop 'it does not compile'
 
 # Words that the readers look for.
 for word in YUV4MPEG2 'FRAME\x0a' ' W16' ' H16' ' W8192' ' H8193' ' F1:600' ' F30000:1001' ' F0:0' ' Ip' ' It' ' Im' ' A1:1' ' A0:0' \
