@@ -156,8 +156,8 @@ enum brine_double {
 
 /* A fresh detector for frames of width * height samples, before Fast mode reduces them. `lookahead` is the lookahead distance:
  * 5 or more has the detector look five pairs ahead, less has it look at none. `min` and `max` are the distances of keyframes:
- * below `min` there is no cut, from `max` on there is one, but for sets too short to decide on. Any number is taken for the
- * three.
+ * below `min` there is no cut; else from `max` on there is one, if the set has six frames or more or the lookahead is below 5.
+ * Any number is taken for the three.
  * Returns 0, and all the numbers are written; there is no score yet, so `scores` is not written.
  * Refusals: 11, where numbers_len is not BRINE_NUMBERS or scores_len not BRINE_SCORES; 6; 5. Then nothing is written. */
 int64_t brine_detector_fresh(size_t width, size_t height, uint32_t depth, size_t lookahead, uint32_t mode,
@@ -167,9 +167,9 @@ int64_t brine_detector_fresh(size_t width, size_t height, uint32_t depth, size_t
  * above its threshold, which is 18 in Fast mode.
  *   - With a lookahead of 5 or more a set of five frames or fewer gets 0, from distance `max` on too. So wait until a set
  *     has seven frames; a film's last four get no decision. A first set of six is decided on by the pair after its own.
- *   - Then, of two large pairs 1 to 4 frames apart neither is a cut in Fast mode, 5 apart the first alone. In Standard mode
- *     it is the second; 5 apart both may be. Of three or more in a row the last is the cut; none is, if that is one of the
- *     film's last four frames.
+ *   - Then, of two large pairs 1 to 4 frames apart neither is a cut in Fast mode, 5 apart (or 4, in a set of six) the first
+ *     alone. In Standard mode it is the second; 5 apart both may be. Of three or more in a row the last is the cut; none is,
+ *     if that is one of the film's last four frames.
  *   - With a lookahead below 5 and sets of L frames the first L - 2 calls are decided on by the pair after their own. In
  *     Fast mode noise up to the film's end makes the last frame a cut. There, and in None mode, the release number stays.
  *   - A change at a distance below `min` is lost; no later call makes up for it. A cut by `max` is a cut like any other.

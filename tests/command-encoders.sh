@@ -80,4 +80,15 @@ if command -v ffmpeg > /dev/null 2>&1; then
             gives "ffmpeg's film, $size of $format" "$room/plain.fast" decide "$encoded" --csv
         done
     done
+
+    # A camera's pictures have the full range. A change of 20 at frame 12 is a cut; as docs/COMMAND.md says, in the range of most films it
+    # is 17 and none.
+    mkdir "$room/camera"
+    film header 'W64 H48 F1:600 Ip A1:1 C420jpeg XCOLORRANGE=FULL' FRAME $(awk 'BEGIN { while (n++ < 30) print n < 13 ? 100 : 120 }') |
+        ffmpeg -v error -f yuv4mpegpipe -i - -c:v mjpeg -q:v 1 "$room/camera/pic%02d.jpg" 2> "$room/log"
+    for range in 'yuvj420p 0 12' 'yuv420p 0'; do
+        ffmpeg -v error -nostdin -y -framerate 1/600 -i "$room/camera/pic%02d.jpg" -pix_fmt "${range%% *}" -f yuv4mpegpipe \
+            "$encoded" 2> "$room/log"
+        cuts_at "a camera's pictures as ${range%% *}" "${range#* }" "$encoded"
+    done
 fi

@@ -71,11 +71,12 @@ END
 done
 
 # The rule of Fast mode in one sentence, on a film of 800 frames: a large pair is a cut if none of the next five is large and
-# of the five before it none is or at least two are; or if none before is, and of the next five the fifth alone.
+# of the five before it none is or at least two are; or if none before is, and of the next five the fifth alone. The last frame that is
+# decided has four after it, and there the fourth counts as the fifth.
 awk 'BEGIN {
     for (n = 1; n < 800; n++) {
         seed = (seed * 25173 + 13849) % 65536
-        large = n < 790 && seed / 65536 < 0.05 + int(n / 200) / 15
+        large = seed / 65536 < 0.05 + int(n / 200) / 15
         print large ? 18 + n % 7 : n % 18
     }
 }' > "$room/random"
@@ -84,13 +85,14 @@ frames=$(awk '{ d[NR] = $1 >= 18 } END {
     for (n = 1; n <= NR - 4; n++) {
         before = after = 0
         for (k = 1; k <= 5; k++) { before += d[n - k]; after += d[n + k] }
-        if (d[n] && ((!after && before != 1) || (!before && after == 1 && d[n + 5]))) printf " %d", n
+        fifth = n == NR - 4 ? 4 : 5
+        if (d[n] && ((!after && before != 1) || (!before && after == 1 && d[n + fifth]))) printf " %d", n
     }
 }' "$room/random")
 # shellcheck disable=SC2046 # words
 sea_of $(cat "$room/random")
 in_fast "the rule in one sentence" "$frames"
-[ "$(echo "$frames" | wc -w)" = 39 ]
+[ "$(echo "$frames" | wc -w)" = 40 ]
 verdict "the rule in one sentence: there are cuts" $?
 
 # The film's end: with a lookahead of 5 or more the last four frames get no decision, and five frames get none at all.
@@ -161,6 +163,8 @@ done << END
 0|0,11|--lookahead 4|9x0 70 -70 9x0
 0,10|0|--lookahead 4|9x0 70 -70
 0,1|0,1||0 40 3x0
+0,35|0||34x0 40 3x0 40
+0|0||34x0 40 2x0 40 0
 0,7,14,21|0,7,14,21|--max 7|29x0
 0,25|0,25|--max 25|29x0
 0|0|--max 26|29x0

@@ -29,7 +29,12 @@ ends "an unknown option" 2 "decide has no option '--fast'" decide "$a" --fast
 ends "an unknown letter" 2 "decide has no option '-x'" decide "$a" -x
 ends "an unknown letter of another alphabet" 2 "decide has no option '-.xC3'" decide "$a" -é
 ends "an unknown option with a value" 2 "decide has no option '--speed=9'" decide "$a" --speed=9
-ends "the beginning of several options" 2 "decide has no option '--m'" decide "$a" --m 3
+ends "the beginning of several options" 2 "'--m' is the beginning of more than one option" decide "$a" --m 3
+ends "the beginning of several options, with =" 2 "'--m=3' is the beginning of more than one option" decide "$a" --m=3
+ends "a film without a name" 2 "decide wants a film" decide ''
+ends "costs without a name" 2 "--inter wants the name of a file, not ''" decide "$a" --mode standard --inter=
+ends "costs from the standard input" 2 "--inter wants the name of a file, not '-'" decide "$a" --mode standard --inter -
+ends "a log without a name" 2 "log wants a file" log ''
 ends "a switch with a value" 2 "'--csv=1': this option takes no value" decide "$a" --csv=1
 ends "help with a value" 2 "'--help=1': this option takes no value" decide "$a" --help=1
 ends "an option that is nearly --purge" 2 "no option '--purged'" decide "$a" --purged
@@ -42,7 +47,7 @@ ends "an option without its value" 2 "--min wants a value" decide "$a" --min
 ends "an unknown mode" 2 "--mode wants" decide "$a" --mode slow
 ends "lookahead 0" 2 "at least 1" decide "$a" --lookahead 0
 for bad in '' x 1x -1 +1 ' 1' 1.5 18446744073709551616; do
-    ends "a bad number '$bad'" 2 "--max wants a whole number" decide "$a" --max "$bad"
+    ends "a bad number '$bad'" 2 "--max wants a whole number below 2^64, not" decide "$a" --max "$bad"
 done
 for words in '--cuts --bars' '--bars --cuts' '--bars --csv' '--cuts --purge' '--bars --purge'; do
     # shellcheck disable=SC2086 # words
@@ -56,7 +61,7 @@ ends "measure with one picture" 2 "two pictures" measure "$a"
 ends "measure with three pictures" 2 "two pictures" measure "$a" "$a" "$a"
 ends "measure in none mode" 2 "--mode wants fast or standard, not 'none'" measure "$a" "$a" --mode none
 ends "measure has no --csv" 2 "measure has no option '--csv'" measure "$a" "$a" --csv
-ends "demo with a word" 2 "takes no words" demo now
+ends "demo with a word" 2 "demo takes no file: 'now'" demo now
 ends "demo with an option" 2 "demo has no option '--csv'" demo --csv
 
 # Habits: a value behind '=', words in any order, an option by its beginning, '--' before names that look like options.

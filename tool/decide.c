@@ -45,7 +45,7 @@ static enum status decide_film(const struct options *options, struct film *film)
 static enum status look_at(const struct options *options, const struct film *film)
 {
     if (options->times && film->rate.frames == 0)
-        return say_failed("%s: its header names no frame rate, so there are no times", film->name);
+        return say_failed("%s: its header names no frame rate, as F25:1, so there are no times", film->name);
     if (options->settings.lookahead < FULL_LOOKAHEAD)
         say_note("a lookahead below 5: %sno frame may be purged",
                  options->settings.mode == BRINE_MODE_NONE

@@ -142,7 +142,7 @@ enum status command_demo(int count, char **words)
     if (option != WORDS_END)
         return option == WORDS_HELP ? command_help() : FAILED;
     if (optind < count)
-        return say_usage("demo takes no words, not '%s'", words[optind]);
+        return say_usage("demo takes no file: '%s'", words[optind]);
     memset(&story, 0, sizeof story);
     film_open_drawn(&film);
     const enum status status = drive(&film, &costs, &settings, story_take, &story);

@@ -20,8 +20,8 @@ static const char decide[] =
     "                     the answers are worse\n"
     "        --min        no cut at a distance below N (default 0)\n"
     "        --max        a cut at the latest N frames after the last one, or --min\n"
-    "                     where that is more; none in a film's last four frames\n"
-    "                     (default 4294967295)\n"
+    "                     where that is more; with a lookahead of 5 or more none\n"
+    "                     in a film's last four frames (default 4294967295)\n"
     "        --inter      the inter costs of standard mode, one number per line,\n"
     "                     that of the film's first two frames first\n"
     "        --log        appends each score to a log, on the card before the next\n"
@@ -32,7 +32,7 @@ static const char decide[] =
     "        --times      one more column: when the frame is shown\n"
     "        --purge      one more column: the film's frame that may go after this\n"
     "                     call and could not before\n"
-    "        --csv        for machines: commas, every digit, nothing else\n"
+    "        --csv        for machines: commas, numbers that read back the same\n"
     "\n";
 
 static const char others[] =

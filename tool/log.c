@@ -36,7 +36,7 @@ static enum status read_words(struct listing *listing, int count, char **words)
     }
     if (listing->help)
         return DONE;
-    if (optind == count)
+    if (optind == count || words[optind][0] == '\0')
         return say_usage("log wants a file");
     if (optind + 1 < count)
         return say_usage("log takes one file, not '%s' and '%s'", words[optind], words[optind + 1]);

@@ -43,7 +43,7 @@ bool mode_read(const char *text, uint32_t *mode)
 
 static enum status take_number(const char *name, const char *value, uint64_t *number)
 {
-    return number_read(value, number) ? DONE : say_usage("%s wants a whole number, not '%s'", name, value);
+    return number_read(value, number) ? DONE : say_usage("%s wants a whole number below 2^64, not '%s'", name, value);
 }
 
 static enum status take_lookahead(const char *value, size_t *lookahead)
@@ -63,11 +63,11 @@ static enum status take_first(const char *value, uint64_t *first)
     return status == DONE && *first > UINT32_MAX ? say_usage("--first wants a number below 2^32, not '%s'", value) : status;
 }
 
-/* Elsewhere '-' is the standard input, to which no log can be written. */
-static enum status take_log(const char *value, const char **log)
+/* For a film '-' is the standard input. No log can be written there, and no costs are read from it. */
+static enum status take_file(const char *name, const char *value, const char **file)
 {
-    *log = value;
-    return value[0] != '\0' && strcmp(value, "-") != 0 ? DONE : say_usage("--log wants the name of a file, not '%s'", value);
+    *file = value;
+    return value[0] != '\0' && strcmp(value, "-") != 0 ? DONE : say_usage("%s wants the name of a file, not '%s'", name, value);
 }
 
 static enum status take_form(struct options *options, enum form form)
@@ -93,7 +93,9 @@ static enum status take_option(struct options *options, int option, const char *
     case OPTION_FIRST:
         return take_first(value, &options->first);
     case OPTION_LOG:
-        return take_log(value, &options->log);
+        return take_file("--log", value, &options->log);
+    case OPTION_INTER:
+        return take_file("--inter", value, &options->inter);
     case OPTION_CUTS:
         return take_form(options, FORM_CUTS);
     case OPTION_BARS:
@@ -101,7 +103,6 @@ static enum status take_option(struct options *options, int option, const char *
     default:
         break;
     }
-    options->inter = option == OPTION_INTER ? value : options->inter;
     options->times = options->times || option == OPTION_TIMES;
     options->purge = options->purge || option == OPTION_PURGE;
     options->csv = options->csv || option == OPTION_CSV;
@@ -137,7 +138,7 @@ enum status options_read(struct options *options, int count, char **words)
     }
     if (status != DONE || options->help)
         return status;
-    if (optind == count)
+    if (optind == count || words[optind][0] == '\0')
         return say_usage("decide wants a film");
     if (optind + 1 < count)
         return say_usage("decide takes one film, not '%s' and '%s'", words[optind], words[optind + 1]);

@@ -50,7 +50,10 @@ static uint32_t bits_of(size_t largest)
 static enum status read_header(struct picture *picture, FILE *file, const char *path)
 {
     size_t largest = 0;
-    if (getc(file) != 'P' || getc(file) != '5')
+    const int first = getc(file);
+    if (first == EOF)
+        return fault(file, path, "it is empty");
+    if (first != 'P' || getc(file) != '5')
         return fault(file, path, "not a binary PGM picture (it does not begin with P5)");
     if (!header_number(file, &picture->width) || !header_number(file, &picture->height)
         || !header_number(file, &largest))

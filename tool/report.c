@@ -5,6 +5,7 @@
 
 #include <inttypes.h>
 #include <stdio.h>
+#include <sys/stat.h>
 #include <unistd.h>
 
 /* A film of so many frames is long; then progress is told every so many. */
@@ -14,7 +15,9 @@ enum { COUNT_WIDTH = 9, TIME_WIDTH = 13 }; /* of the columns behind the score's 
 
 void report_start(struct report *report, const struct options *options, const struct film *film)
 {
-    const bool watched = isatty(STDERR_FILENO) == 1 && isatty(STDOUT_FILENO) == 0;
+    struct stat about;
+    const bool to_file = fstat(STDOUT_FILENO, &about) == 0 && S_ISREG(about.st_mode);
+    const bool watched = to_file && isatty(STDERR_FILENO) == 1;
     *report = (struct report){.options = options, .film = film, .watched = watched};
 }
 

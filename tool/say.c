@@ -6,8 +6,16 @@
 
 enum { TEXT_ROOM = 8192, ESCAPE = 4 }; /* an escape is \xNN */
 
+/* Signs of UTF-8 that are not seen or that turn the text around them: U+200B to 200F, 202A to 202E, 2060 to 206F, FEFF. */
+static bool is_unseen(const unsigned char *at)
+{
+    const bool general = at[0] == 0xE2 && at[1] == 0x80 && ((at[2] >= 0x8B && at[2] <= 0x8F) || (at[2] >= 0xAA && at[2] <= 0xAE));
+    const bool further = at[0] == 0xE2 && at[1] == 0x81 && at[2] >= 0xA0 && at[2] <= 0xAF;
+    return general || further || (at[0] == 0xEF && at[1] == 0xBB && at[2] == 0xBF);
+}
+
 /* How many bytes the letter at `at` has, or 0 where no letter begins there that may be shown. UTF-8 is let through, but for its
-   control letters (C2 80 to C2 9F) and for what is no letter of it. */
+   control letters (C2 80 to C2 9F), signs that are not seen, and what is no letter of it. */
 static size_t letter_bytes(const unsigned char *at)
 {
     const unsigned char a = at[0], b = a == 0 ? 0 : at[1];
@@ -20,7 +28,7 @@ static size_t letter_bytes(const unsigned char *at)
     const bool control = a == 0xC2 && b < 0xA0;
     const bool longer = (a == 0xE0 && b < 0xA0) || (a == 0xF0 && b < 0x90);
     const bool none = (a == 0xED && b >= 0xA0) || (a == 0xF4 && b >= 0x90);
-    return control || longer || none ? 0 : count;
+    return control || longer || none || is_unseen(at) ? 0 : count;
 }
 
 /* Any byte that is part of no letter becomes \xNN. */

@@ -119,8 +119,10 @@ static enum status read_header(struct film *film)
 
     if (ferror(film->file))
         return say_failed("%s: %s", film->name, strerror(errno));
+    if (got == 0)
+        return say_failed("%s: it is empty", film->name);
     if (got != length || strcmp(magic, "YUV4MPEG2") != 0)
-        return say_failed("%s: not a Y4M film (it does not begin with YUV4MPEG2)", film->name);
+        return say_failed("%s: not a Y4M film (it does not begin with YUV4MPEG2); ffmpeg makes one of any film", film->name);
     const enum line_read read = line_read(&film->line, film->file);
     const char *fault = line_fault(&film->line, read);
     if (fault != NULL)
