@@ -73,6 +73,12 @@ stops_after() { # FAULT WORDS LINES CALL..
 stops_after 'fdatasync fails' "$log: record 0 at byte 0, frame 1: cannot be written" 1 fsync:"$room" write:0:47 sync
 stops_after 'fsync fails' "$log" 0 fsync:"$room"
 
+watched '' log --csv "$whole"
+cp "$room/out" "$room/wanted"
+watched 'read interrupted' log --csv "$whole"
+[ "$status" = 0 ] && cmp -s "$room/wanted" "$room/out" && [ "$(wc -l < "$room/out")" = 6 ]
+verdict "read interrupted: the listing goes on" $?
+
 # Films and costs that cannot be read to their end: what was decided before stays, and the message says why. A frame has 262 bytes,
 # every third one 265.
 unreadable() { # NAME FILE BYTES WORDS LINES ARGUMENTS..

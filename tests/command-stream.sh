@@ -65,6 +65,18 @@ verdict "a film and its costs through two pipes" $?
 kill "$process" "$writer" 2> /dev/null
 wait
 
+# On a terminal that sees no lines a long film tells how far it is, and a message takes the place of that.
+if command -v script > /dev/null 2>&1; then
+    # shellcheck disable=SC2046 # words
+    film y4m 16 16 mono $(awk 'BEGIN { while (n++ < 260) print 50 }') > "$room/watched.y4m"
+    printf FRAM >> "$room/watched.y4m"
+    script -qc "$RUN $COMMAND decide $room/watched.y4m > $room/out" /dev/null < /dev/null > "$room/typed" 2> "$room/log"
+    tr '\r' '\n' < "$room/typed" > "$room/log"
+    grep -q '^200 frames, 0 cuts$' "$room/log" && grep -q '^250 frames, 0 cuts$' "$room/log" &&
+        grep -q '^brinepulley: .*frame 260 (at byte [0-9]*): it is cut short$' "$room/log" && ! grep -q '^100 frames' "$room/log"
+    verdict "progress on a terminal" $?
+fi
+
 # A film without end, of letters for samples.
 endless() { # FRAMES, 0 for no end
     awk -v frames="$1" 'BEGIN {

@@ -99,6 +99,8 @@ ssize_t __wrap_read(int file, void *bytes, size_t count)
     static int reads = 0;
     const char *later = getenv("WATCH_LATER");
 
+    if (due("read interrupted"))
+        return failed(EINTR);
     if (later == NULL)
         return __real_read(file, bytes, count);
     reads++;
