@@ -201,3 +201,11 @@ done << 'END'
 0,10 0 16 50 128
 0,10 0,10 16 128 50
 END
+
+# An importance of 7 may also be that of a pair shortly before, five at the most: 10 up at frame 5 or 4, and 6 more at frame 10.
+for before in '5 0,10' '4 0'; do
+    frames=$(awk -v at="${before% *}" 'BEGIN { while (n < 22) { print (n < at ? 50 : n < 10 ? 60 : 66); n++ } }')
+    # shellcheck disable=SC2086 # words
+    film y4m 16 16 mono $frames > "$sea"
+    in_standard "10 up at frame ${before% *}, 6 more at 10" "${before#* }"
+done
