@@ -42,12 +42,12 @@ module _ (m u : ℕ) (some : 0 < u) (q : ℕ) (l : List ℤ) (p : LineIn (m * 4)
   unfolding columns
   column-entry i j i< j< =
       at-place columns (i * (4 * u) + j * u) (j * u + i * (4 * u)) (omega arith)
-      ∙ lined-done m u (4 * u) 4 q l columns-in 4 j i (omega arith) j< i<
+      ∙ lined-done (output m) m u (4 * u) 4 q l columns-in (output-ext m) 4 j i (omega arith) j< i<
       ∙ output-ext m (lineEntry l (j * u) (4 * u)) (λ (k : ℕ). lineEntry l 0 u (k * 4 + j)) i (λ k _. at-place l (j * u + k * (4 * u)) (0 + (k * 4 + j) * u) (omega arith))
 
   long : length columns ≡ length l
   unfolding columns
-  long = length-lined m u (4 * u) 4 l
+  long = length-lined (output m) m u (4 * u) 4 l
 
   pub rows-in : LinesIn 4 m (4 * u) u (m * q) (allLined m u (4 * u) 4 l)
   unfolding columns
@@ -70,7 +70,7 @@ module _ (m u : ℕ) (some : 0 < u) (q : ℕ) (l : List ℤ) (p : LineIn (m * 4)
   row-entry : (a b : ℕ) → a < m → b < 4 → getD rows (a * (4 * u) + b * u) (pos 0) ≡ output (m * 4) (lineEntry l 0 u) (a * 4 + b)
   unfolding columns rows
   row-entry a b a< b< =
-      lined-done 4 (4 * u) u m (m * q) columns rows-in m a b (omega arith) a< b<
+      lined-done (output 4) 4 (4 * u) u m (m * q) columns rows-in (output-ext 4) m a b (omega arith) a< b<
       ∙ output-ext 4 (lineEntry columns (a * (4 * u)) u) (λ (j : ℕ). output m (λ (k : ℕ). lineEntry l 0 u (k * 4 + j)) a) b (λ j j<. column-entry a j a< j<)
       ∙ sym (output-digits 2 a b b< m (lineEntry l 0 u))
 
@@ -78,8 +78,8 @@ module _ (m u : ℕ) (some : 0 < u) (q : ℕ) (l : List ℤ) (p : LineIn (m * 4)
   other : (t : ℕ) → ((k : ℕ) → k < m * 4 → t ≡ k * u → ⊥) → getD rows t (pos 0) ≡ getD (lined (m * 4) 0 u l) t (pos 0)
   unfolding columns rows
   other t off =
-      lined-other 4 (4 * u) u m columns t (λ a k a< k< e. off (a * 4 + k) (digits-lt a< k<) (omega arith))
-      ∙ lined-other m u (4 * u) 4 l t (λ a k a< k< e. off (k * 4 + a) (digits-lt k< a<) (omega arith))
+      lined-other (output 4) 4 (4 * u) u m columns t (λ a k a< k< e. off (a * 4 + k) (digits-lt a< k<) (omega arith))
+      ∙ lined-other (output m) m u (4 * u) 4 l t (λ a k a< k< e. off (k * 4 + a) (digits-lt k< a<) (omega arith))
       ∙ sym (stores-other 0 u (output (m * 4) (lineEntry l 0 u)) (m * 4) l t (λ k k< e. off k k< (omega arith)))
 
   -- one that is on it has a number
@@ -105,6 +105,6 @@ module _ (m u : ℕ) (some : 0 < u) (q : ℕ) (l : List ℤ) (p : LineIn (m * 4)
   unfolding columns rows
   grid =
       let out : ℕ → ℤ = output (m * 4) (lineEntry l 0 u) in
-      let size : length rows ≡ length l = length-lined 4 (4 * u) u m columns ∙ long in
+      let size : length rows ≡ length l = length-lined (output 4) 4 (4 * u) u m columns ∙ long in
       ext-getD (pos 0) rows (lined (m * 4) 0 u l) (size ∙ sym (length-stores 0 u out (m * 4) l))
       (λ t t<. entry t (ℕ-discrete (t % u) 0) (decLt (t / u) (m * 4)))

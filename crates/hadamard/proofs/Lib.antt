@@ -4,7 +4,7 @@ pub mod Digits
 pub mod Places
 pub mod Parts
 pub mod FourLaws
-pub mod PairLaws
+pub mod StageLaws
 pub mod Grid
 pub mod Square
 pub mod Range

@@ -9,9 +9,7 @@ use native.Mathlib.Omega.{arith}
 use lib.ListN.{length, getD, set, length-set}
 use lib.Seq.{getD-set-same, getD-set-other}
 use lib.IntN.{ℤ, pos}
-use Rattle.hadamard.specs.Transform.{output}
-use Rattle.hadamard.specs.Steps.{lineEntry, stores, lined, allLined, LineIn, LinesIn}
-use Rattle.hadamard.proofs.Halves.{output-ext}
+use Rattle.hadamard.specs.Steps.{lineEntry, stores, linedBy, allLinedBy, LineIn, LinesIn}
 
 pub at-place : (x : List ℤ) (s t : ℕ) → s ≡ t → getD x s (pos 0) ≡ getD x t (pos 0)
 at-place x s t e = ap (λ (i : ℕ). getD x i (pos 0)) e
@@ -48,61 +46,62 @@ module _ (at step : ℕ) (g : ℕ → ℤ) where
   stores-ext zero f l e = refl
   stores-ext (suc n) f l e = rw (stores-ext n f l (λ k h. e k (omega arith)), e n (omega arith))
 
--- ---- all lines
-module _ (n first step : ℕ) where
-  pub none-lined : (l : List ℤ) → l ≡ allLined n first step 0 l
-  unfolding allLined
+-- ---- all lines, with any t done to each
+module _ (t : (ℕ → ℤ) → ℕ → ℤ) (n first step : ℕ) where
+  pub none-lined : (l : List ℤ) → l ≡ allLinedBy t n first step 0 l
+  unfolding allLinedBy
   none-lined l = refl
 
-  pub more-lined : (m : ℕ) (l : List ℤ) → lined n (m * first) step (allLined n first step m l) ≡ allLined n first step (m + 1) l
-  unfolding allLined
+  pub more-lined : (m : ℕ) (l : List ℤ) → linedBy t n (m * first) step (allLinedBy t n first step m l) ≡ allLinedBy t n first step (m + 1) l
+  unfolding allLinedBy
   more-lined m l = rw add-one
 
-  pub length-lined : (m : ℕ) (l : List ℤ) → length (allLined n first step m l) ≡ length l
-  unfolding allLined
+  pub length-lined : (m : ℕ) (l : List ℤ) → length (allLinedBy t n first step m l) ≡ length l
+  unfolding allLinedBy
   length-lined zero l = refl
   length-lined (suc m) l =
-      length-stores (m * first) step (output n (lineEntry (allLined n first step m l) (m * first) step)) n (allLined n first step m l)
+      length-stores (m * first) step (t (lineEntry (allLinedBy t n first step m l) (m * first) step)) n (allLinedBy t n first step m l)
       ∙ length-lined m l
 
   -- a place on none of them is as it was
-  pub lined-other : (m : ℕ) (l : List ℤ) (t : ℕ) → ((a k : ℕ) → a < m → k < n → t ≡ a * first + k * step → ⊥)
-      → getD (allLined n first step m l) t (pos 0) ≡ getD l t (pos 0)
-  unfolding allLined
-  lined-other zero l t h = refl
-  lined-other (suc m) l t h =
-      stores-other (m * first) step (output n (lineEntry (allLined n first step m l) (m * first) step)) n (allLined n first step m l) t
+  pub lined-other : (m : ℕ) (l : List ℤ) (s : ℕ) → ((a k : ℕ) → a < m → k < n → s ≡ a * first + k * step → ⊥)
+      → getD (allLinedBy t n first step m l) s (pos 0) ≡ getD l s (pos 0)
+  unfolding allLinedBy
+  lined-other zero l s h = refl
+  lined-other (suc m) l s h =
+      stores-other (m * first) step (t (lineEntry (allLinedBy t n first step m l) (m * first) step)) n (allLinedBy t n first step m l) s
       (λ k k< e. h m k (omega arith) k< e)
-      ∙ lined-other m l t (λ a k a< k<. h a k (omega arith) k<)
+      ∙ lined-other m l s (λ a k a< k<. h a k (omega arith) k<)
 
   module _ (c q : ℕ) (l : List ℤ) (p : LinesIn n c first step q l) where
     -- the lines to come are as they were
-    pub lined-left : (m a k : ℕ) → m ≤ a → a < c → k < n → lineEntry (allLined n first step m l) (a * first) step k ≡ lineEntry l (a * first) step k
+    pub lined-left : (m a k : ℕ) → m ≤ a → a < c → k < n → lineEntry (allLinedBy t n first step m l) (a * first) step k ≡ lineEntry l (a * first) step k
     lined-left m a k h a< k< =
         lined-other m l (a * first + k * step) (λ b i b< i< e. let s = p .own a b k i a< (omega arith) k< i< e in omega arith)
 
     -- so that the next of them still lies in the list, with entries as small as they were
-    pub next-line : (i : ℕ) → i < c → LineIn n (i * first) step q (allLined n first step i l)
+    pub next-line : (i : ℕ) → i < c → LineIn n (i * first) step q (allLinedBy t n first step i l)
     next-line i i< =
         record { room = λ j j<. omega (arith, p .room i j i< j<, length-lined i l); most = λ j j<. rw (lined-left i i j (omega arith) i< j<) (p .most i j i< j<) }
 
-    -- those done are transformed
-    pub lined-done : (m a k : ℕ) → m ≤ c → a < m → k < n → lineEntry (allLined n first step m l) (a * first) step k ≡ output n (lineEntry l (a * first) step) k
-    unfolding allLined
-    lined-done zero a k m≤ h k< = absurd (omega arith)
-    lined-done (suc m) a k m≤ h k< =
-        let before : List ℤ = allLined n first step m l in
+    -- it was done to those passed, if it looks at the line's own entries alone
+    pub lined-done : ((f g : ℕ → ℤ) (k : ℕ) → ((j : ℕ) → j < n → f j ≡ g j) → t f k ≡ t g k)
+        → (m a k : ℕ) → m ≤ c → a < m → k < n → lineEntry (allLinedBy t n first step m l) (a * first) step k ≡ t (lineEntry l (a * first) step) k
+    unfolding allLinedBy
+    lined-done ext zero a k m≤ h k< = absurd (omega arith)
+    lined-done ext (suc m) a k m≤ h k< =
+        let before : List ℤ = allLinedBy t n first step m l in
         ⊎-elim
         (λ (e : a ≡ m).
-        subst (λ (b : ℕ). lineEntry (lined n (m * first) step before) (b * first) step k ≡ output n (lineEntry l (b * first) step) k) (sym e)
-        (stores-at (m * first) step (output n (lineEntry before (m * first) step)) (p .some) n before k k<
+        subst (λ (b : ℕ). lineEntry (linedBy t n (m * first) step before) (b * first) step k ≡ t (lineEntry l (b * first) step) k) (sym e)
+        (stores-at (m * first) step (t (lineEntry before (m * first) step)) (p .some) n before k k<
         (omega (arith, p .room m k (omega arith) k<, length-lined m l))
-        ∙ output-ext n (lineEntry before (m * first) step) (lineEntry l (m * first) step) k
+        ∙ ext (lineEntry before (m * first) step) (lineEntry l (m * first) step) k
         (λ j j<. lined-left m m j (omega arith) (omega arith) j<)))
         (λ (l< : a < m).
-        stores-other (m * first) step (output n (lineEntry before (m * first) step)) n before (a * first + k * step)
+        stores-other (m * first) step (t (lineEntry before (m * first) step)) n before (a * first + k * step)
         (λ i i< e. let q = p .own a m k i (omega arith) (omega arith) k< i< e in omega arith)
-        ∙ lined-done m a k (omega arith) l< k<)
+        ∙ lined-done ext m a k (omega arith) l< k<)
         (eq-or-lt-of-le (omega arith))
 
 -- of entries that are at most q in size, and so at most some larger number

@@ -60,12 +60,5 @@ module _ (a b : ℤ) (h : natAbs a < 2 ^ 30) (k : natAbs b < 2 ^ 30) where
   pub two-made : _≡_ {A = Two} (record { sum = toZ w32 (ofZ w32 (toZ w32 (ofZ w32 a) +ℤ toZ w32 (ofZ w32 b))); difference = toZ w32 (ofZ w32 (toZ w32 (ofZ w32 a) -ℤ toZ w32 (ofZ w32 b))) }) (twoOf a b)
   two-made = rw (toZ-ofZ add-asked, toZ-ofZ sub-asked, held-add, held-sub)
 
-  pub two-kept : (r : Two) → r ≡ twoOf a b → (toZ w32 (ofZ w32 (r .sum)) ≡ a +ℤ b) × (toZ w32 (ofZ w32 (r .difference)) ≡ a -ℤ b)
-  two-kept r e = rw e (read-back (a +ℤ b) (omega (arith, abs-add a b)), read-back (a -ℤ b) (omega (arith, abs-sub a b)))
-
-  module _ (r : Two) (e : r ≡ twoOf (toZ w32 (ofZ w32 a)) (toZ w32 (ofZ w32 b))) where
-    pub two-is : r ≡ twoOf a b
-    two-is = e ∙ rw (read-back a (omega arith), read-back b (omega arith))
-
-    pub two-read : (toZ w32 (ofZ w32 (r .sum)) ≡ a +ℤ b) × (toZ w32 (ofZ w32 (r .difference)) ≡ a -ℤ b)
-    two-read = two-kept r two-is
+  pub two-read : (r : Two) → r ≡ twoOf (toZ w32 (ofZ w32 a)) (toZ w32 (ofZ w32 b)) → (toZ w32 (ofZ w32 (r .sum)) ≡ a +ℤ b) × (toZ w32 (ofZ w32 (r .difference)) ≡ a -ℤ b)
+  two-read r e = rw e (toZ-ofZ add-asked ∙ held-add, toZ-ofZ sub-asked ∙ held-sub)

@@ -5,12 +5,12 @@ use Prim.Native.Nat.{ℕ, zero, suc, _+_, _*_, _≤_, _<_}
 use lib.IntN.{ℤ, pos, _+ℤ_, _-ℤ_, natAbs}
 use lib.ListN.{length, getD, set}
 use Rattle.answer.specs.Refusal.{refusal}
-use Rattle.sums.specs.Table.{table}
 use Rattle.hadamard.specs.Transform.{output, entryMost, beyondMost}
 use Rattle.hadamard.specs.declared.Two.{Two}
 use Rattle.hadamard.specs.declared.Four.{Four}
 
--- the largest numbers on the way: of a line of four before its transform, which may be the third that its entries go through, of its pairs, and after it
+-- the largest numbers on the way: of a line of four before its transform, which may be the third that its entries go through, after one
+-- stage, and after both
 abbrev pub lineMost : ℕ
 lineMost = 16 * entryMost
 
@@ -36,19 +36,9 @@ nth x j = getD (x .x0 ∷ x .x1 ∷ x .x2 ∷ x .x3 ∷ []) j (pos 0)
 abbrev pub twoOf : ℤ → ℤ → Two
 twoOf a b = record { sum = a +ℤ b; difference = a -ℤ b }
 
--- those of the neighbours from place at on; of all 32 pairs; and the outputs of row i of four from its two pairs
-abbrev pub twoAt : List ℤ → ℕ → Two
-twoAt l at = twoOf (getD l at (pos 0)) (getD l (at + 1) (pos 0))
-
-abbrev pub pairSums : List ℤ → List ℤ
-pairSums l = table 32 (λ (i : ℕ). twoAt l (2 * i) .sum)
-
-abbrev pub pairDifferences : List ℤ → List ℤ
-pairDifferences l = table 32 (λ (i : ℕ). twoAt l (2 * i) .difference)
-
-abbrev pub pairedFour : List ℤ → List ℤ → ℕ → Four
-pairedFour s d i =
-    record { x0 = twoAt s (2 * i) .sum; x1 = twoAt d (2 * i) .sum; x2 = twoAt s (2 * i) .difference; x3 = twoAt d (2 * i) .difference }
+-- a stage of four numbers: the sums of their two pairs of neighbours, and then the differences. Two stages are the transform.
+abbrev pub stageOf : (ℕ → ℤ) → ℕ → ℤ
+stageOf f = nth (record { x0 = f 0 +ℤ f 1; x1 = f 2 +ℤ f 3; x2 = f 0 -ℤ f 1; x3 = f 2 -ℤ f 3 })
 
 -- each of four numbers is at most m in size
 pub record FourWithin (m : ℕ) (x : Four) : Type 0 where
@@ -66,14 +56,20 @@ unfoldable pub stores : ℕ → ℕ → ℕ → (ℕ → ℤ) → List ℤ → L
 stores zero at step g l = l
 stores (suc n) at step g l = set (stores n at step g l) (at + n * step) (g n)
 
--- l with the n entries of that line transformed
-abbrev pub lined : ℕ → ℕ → ℕ → List ℤ → List ℤ
-lined n at step l = stores n at step (output n (lineEntry l at step)) l
+-- l with t of the n entries of that line in their places, and with their transform
+abbrev pub linedBy : ((ℕ → ℤ) → ℕ → ℤ) → ℕ → ℕ → ℕ → List ℤ → List ℤ
+linedBy t n at step l = stores n at step (t (lineEntry l at step)) l
 
--- l after the first m of its lines are transformed, line a from place a * first on
-unfoldable pub allLined : ℕ → ℕ → ℕ → ℕ → List ℤ → List ℤ
-allLined n first step zero l = l
-allLined n first step (suc m) l = lined n (m * first) step (allLined n first step m l)
+abbrev pub lined : ℕ → ℕ → ℕ → List ℤ → List ℤ
+lined n = linedBy (output n) n
+
+-- l after this was done to the first m of its lines, line a from place a * first on
+unfoldable pub allLinedBy : ((ℕ → ℤ) → ℕ → ℤ) → ℕ → ℕ → ℕ → ℕ → List ℤ → List ℤ
+allLinedBy t n first step zero l = l
+allLinedBy t n first step (suc m) l = linedBy t n (m * first) step (allLinedBy t n first step m l)
+
+abbrev pub allLined : ℕ → ℕ → ℕ → ℕ → List ℤ → List ℤ
+allLined n = allLinedBy (output n) n
 
 -- every entry of l is at most m in size
 pub record AllWithin (m : ℕ) (l : List ℤ) : Type 0 where

@@ -1,12 +1,13 @@
 // The Hadamard transform in place, of four rows of four entries and of eight rows of eight. All lines have four entries:
-// 16 entries are four columns and four rows of four, and 64 are four columns of 16 and 16 rows of four.
+// 16 entries are four columns and four rows of four, and 64 are four columns of 16 and 16 rows of four. Each line is loaded,
+// transformed and stored in its place: there is no other list than the caller's.
 ghost use mathlib.Core.Path.{_≡_};
 ghost use Prim.Native.Nat.{_+_, _*_, _<_, _^_};
 ghost use lib.IntN.{natAbs};
 ghost use lib.ListN.{length};
 ghost use Rattle.answer.specs.Refusal.{refusal};
 ghost use Rattle.hadamard.specs.Transform.{output, entryMost, beyondMost, transformFault, afterTransform};
-ghost use Rattle.hadamard.specs.Steps.{countBeyond, twoOf, twoAt, pairSums, pairDifferences, pairedFour, fourOf, nth, FourWithin, lineEntry, stores, lined, allLined, AllWithin, LineIn, LinesIn, lineMost, pairMost, outMost};
+ghost use Rattle.hadamard.specs.Steps.{countBeyond, twoOf, fourOf, nth, stageOf, FourWithin, lineEntry, stores, linedBy, lined, allLinedBy, allLined, LineIn, LinesIn, lineMost, pairMost, outMost};
 
 // The largest entry, and the least.
 const MOST: i32 = 65535;
@@ -39,21 +40,27 @@ fn butterfly(a: i32, b: i32) -> Two
     }
 }
 
-// The transform of four numbers.
+// The sums of two pairs of neighbours, and then their differences: a stage of the transform.
+fn paired(x: Four) -> Four
+    requires { ⌜ FourWithin pairMost x ⌝ }
+    ensures { λ r. ⌜ r ≡ fourOf (stageOf (nth x)) ⌝ }
+{
+    let a = butterfly(x.x0, x.x1);
+    let b = butterfly(x.x2, x.x3);
+    Four {
+        x0: a.sum,
+        x1: b.sum,
+        x2: a.difference,
+        x3: b.difference,
+    }
+}
+
+// The transform of four numbers: two stages.
 fn network(x: Four) -> Four
     requires { ⌜ FourWithin lineMost x ⌝ }
     ensures { λ r. ⌜ r ≡ fourOf (output 4 (nth x)) ⌝ }
 {
-    let a = butterfly(x.x0, x.x1);
-    let b = butterfly(x.x2, x.x3);
-    let c = butterfly(a.sum, b.sum);
-    let d = butterfly(a.difference, b.difference);
-    Four {
-        x0: c.sum,
-        x1: d.sum,
-        x2: c.difference,
-        x3: d.difference,
-    }
+    paired(paired(x))
 }
 
 // The four entries from place at on, a step apart.
@@ -85,20 +92,12 @@ fn store(block: &mut [i32], at: usize, step: usize, y: Four)
     block[at + 3 * step] = y3;
 }
 
-// The outputs of four entries of the list.
-fn outputs(block: &[i32], at: usize, step: usize) -> Four
-    requires { ⌜ LineIn 4 at step lineMost (now block) ⌝ }
-    ensures { λ r. ⌜ r ≡ fourOf (output 4 (lineEntry (now (block .entry)) at step)) ⌝ }
-{
-    network(load(block, at, step))
-}
-
 // The transform of a line of four entries, in their places.
 fn line4(block: &mut [i32], at: usize, step: usize)
     requires { ⌜ LineIn 4 at step lineMost (now block) ⌝ }
     ensures { λ _. ⌜ now (block .exit) ≡ lined 4 at step (now (block .entry)) ⌝ }
 {
-    let y = outputs(&block[..], at, step);
+    let y = network(load(&block[..], at, step));
     store(block, at, step, y);
 }
 
@@ -133,72 +132,34 @@ fn columns(block: &mut [i32])
     }
 }
 
-// The sum and the difference of two neighbours.
-fn neighbours(list: &[i32], at: usize) -> Two
-    requires { ⌜ at + 1 < length (now list) ⌝ }
-    requires { ⌜ AllWithin pairMost (now list) ⌝ }
-    ensures { λ r. ⌜ r ≡ twoAt (now (list .entry)) at ⌝ }
+// A stage of a line of four entries, in their places.
+fn stage(block: &mut [i32], at: usize, step: usize)
+    requires { ⌜ LineIn 4 at step pairMost (now block) ⌝ }
+    ensures { λ _. ⌜ now (block .exit) ≡ linedBy stageOf 4 at step (now (block .entry)) ⌝ }
 {
-    butterfly(list[at], list[at + 1])
+    let y = paired(load(&block[..], at, step));
+    store(block, at, step, y);
 }
 
-// The sums and the differences of the 32 pairs of neighbours.
-fn pairs(block: &[i32], sums: &mut [i32], differences: &mut [i32])
-    requires { ⌜ (length (now block) ≡ 64) × (length (now sums) ≡ 32) × (length (now differences) ≡ 32) ⌝ }
-    requires { ⌜ AllWithin lineMost (now block) ⌝ }
-    ensures { λ _. ⌜ now (sums .exit) ≡ pairSums (now (block .entry)) ⌝ }
-    ensures { λ _. ⌜ now (differences .exit) ≡ pairDifferences (now (block .entry)) ⌝ }
-{
-    for i in 0..32 {
-        let y = neighbours(block, 2 * i);
-        let sum = y.sum;
-        let difference = y.difference;
-        sums[i] = sum;
-        differences[i] = difference;
-    }
-}
-
-// The outputs of row i of four, from its pairs' sums and differences.
-fn row_outputs(sums: &[i32], differences: &[i32], i: usize) -> Four
-    requires { ⌜ (2 * i + 1 < length (now sums)) × (2 * i + 1 < length (now differences)) ⌝ }
-    requires { ⌜ AllWithin pairMost (now sums) × AllWithin pairMost (now differences) ⌝ }
-    ensures { λ r. ⌜ r ≡ pairedFour (now (sums .entry)) (now (differences .entry)) i ⌝ }
-{
-    let y = neighbours(sums, 2 * i);
-    let z = neighbours(differences, 2 * i);
-    Four {
-        x0: y.sum,
-        x1: z.sum,
-        x2: y.difference,
-        x3: z.difference,
-    }
-}
-
-// Puts the outputs of 16 rows of four into their places.
-fn fours(sums: &[i32], differences: &[i32], block: &mut [i32])
-    requires { ⌜ now sums ≡ pairSums (now block) ⌝ }
-    requires { ⌜ now differences ≡ pairDifferences (now block) ⌝ }
-    requires { ⌜ LinesIn 4 16 4 1 lineMost (now block) ⌝ }
-    requires { ⌜ AllWithin lineMost (now block) ⌝ }
-    ensures { λ _. ⌜ now (block .exit) ≡ allLined 4 4 1 16 (now (block .entry)) ⌝ }
+// A stage of 16 rows of four.
+fn stages(block: &mut [i32])
+    requires { ⌜ LinesIn 4 16 4 1 pairMost (now block) ⌝ }
+    ensures { λ _. ⌜ now (block .exit) ≡ allLinedBy stageOf 4 4 1 16 (now (block .entry)) ⌝ }
 {
     for i in 0..16 {
-        let y = row_outputs(sums, differences, i);
-        store(block, i * 4, 1, y);
+        stage(block, i * 4, 1);
     }
 }
 
-// The transform of 16 rows of four. All pairs come first, apart from the list: the compiler takes eight neighbours at once
-// where the sums lie side by side, and the differences do.
+// The transform of 16 rows of four. A stage goes through all rows before the next one begins: where both stages of a row come
+// at once, the compiler moves its entries about six times, and four times so.
 fn rows(block: &mut [i32])
     requires { ⌜ length (now block) ≡ 64 ⌝ }
     requires { ⌜ LinesIn 4 16 4 1 lineMost (now block) ⌝ }
     ensures { λ _. ⌜ now (block .exit) ≡ allLined 4 4 1 16 (now (block .entry)) ⌝ }
 {
-    let mut sums = [0i32; 32];
-    let mut differences = [0i32; 32];
-    pairs(&block[..], &mut sums[..], &mut differences[..]);
-    fours(&sums[..], &differences[..], block);
+    stages(block);
+    stages(block);
 }
 
 // 1 for an entry out of range, else 0.

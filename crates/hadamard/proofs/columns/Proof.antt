@@ -5,7 +5,7 @@ use Prim.Native.Nat.{ℕ, _*_, _-_, _≤_}
 use native.Mathlib.Omega.{arith}
 use borrow.Author.Needs.{needs}
 use lib.ListN.{length}
-use Rattle.hadamard.specs.Transform.{entryMost}
+use Rattle.hadamard.specs.Transform.{output, entryMost}
 use Rattle.hadamard.specs.Steps.{lined, allLined, LineIn}
 use Rattle.hadamard.proofs.Parts.{part-line, part-lined}
 use Rattle.hadamard.proofs.Places.{none-lined, more-lined, length-lined, next-line}
@@ -19,7 +19,7 @@ abbrev μ-loop : tie.MeasureT-loop
 μ-loop block₀ i₀ block i = 4 - i
 
 loop-holds : tie.Need-loop-holds Inv-loop μ-loop
-loop-holds c = (search needs, none-lined 16 1 4 (c .args .block .now))
+loop-holds c = (search needs, none-lined (output 16) 16 1 4 (c .args .block .now))
 
 -- the next column lies in the list
 column : (c : tie.In-loop Inv-loop μ-loop) → LineIn 16 (c .before .loop .i) 4 entryMost (c .before .loop .block)
@@ -28,7 +28,7 @@ column c =
     let s = l .before in
     rw (l .loop .inv .1)
     (subst (λ (at : ℕ). LineIn 16 at 4 entryMost (allLined 16 1 4 (l .loop .i) (s .args .block .now))) (omega arith)
-    (next-line 16 1 4 4 entryMost (s .args .block .now) (s .pre) (l .loop .i) (omega arith)))
+    (next-line (output 16) 16 1 4 4 entryMost (s .args .block .now) (s .pre) (l .loop .i) (omega arith)))
 
 mul-line16 : tie.Need-mul-line16 Inv-loop μ-loop
 mul-line16 c = search needs
@@ -63,11 +63,11 @@ loop-again c =
       part-lined 16 (l .i) 4 (l .block) (omega (arith, column b .room 0 (omega arith))) (c .before .line16 .last .0) (c .before .line16 .ensures)
           ∙ ap (lined 16 (l .i) 4) (l .inv .1)
           ∙ ap (λ (at : ℕ). lined 16 at 4 (allLined 16 1 4 (l .i) first)) next
-          ∙ more-lined 16 1 4 (l .i) first,
+          ∙ more-lined (output 16) 16 1 4 (l .i) first,
     )
 
 same-length : tie.Need-same-length Inv-loop μ-loop
-same-length c = ap length (c .before .loop .inv .1) ∙ length-lined 16 1 4 (c .before .loop .i) (c .before .before .args .block .now)
+same-length c = ap length (c .before .loop .inv .1) ∙ length-lined (output 16) 16 1 4 (c .before .loop .i) (c .before .before .args .block .now)
 
 returns : tie.Need-returns Inv-loop μ-loop
 returns c = c .before .loop .inv .1 ∙ ap (λ (m : ℕ). allLined 16 1 4 m (c .before .before .args .block .now)) (omega arith)

@@ -4,7 +4,7 @@ use mathlib.Core.Path.{_≡_, sym, ap, _∙_}
 use native.Mathlib.Omega.{arith}
 use borrow.Author.Needs.{needs}
 use Rattle.answer.proofs.Laws.{lent-written, lent-kept}
-use Rattle.hadamard.specs.Transform.{entryMost, transformFault, transformed}
+use Rattle.hadamard.specs.Transform.{output, entryMost, transformFault, transformed}
 use Rattle.hadamard.specs.Steps.{allLined, LineIn}
 use Rattle.hadamard.proofs.Grid.{columns-in, rows-in, grid}
 use Rattle.hadamard.proofs.Places.{length-lined}
@@ -45,7 +45,7 @@ rows-requires c κs =
     let d = c .before .before in
     let e = d .before .before in
     let l = start e .args .block .now in
-    rw (d .columns .ensures) (length-lined 16 1 4 4 l ∙ unrefused 8 l (free e) .0, rows-in 16 1 (omega arith) entryMost l (line e))
+    rw (d .columns .ensures) (length-lined (output 16) 16 1 4 4 l ∙ unrefused 8 l (free e) .0, rows-in 16 1 (omega arith) entryMost l (line e))
 
 same-length-2 : tie.Need-same-length-2
 same-length-2 c = search needs

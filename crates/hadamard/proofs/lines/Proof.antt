@@ -5,6 +5,7 @@ use Prim.Native.Nat.{ℕ, _*_, _-_, _≤_}
 use native.Mathlib.Omega.{arith}
 use borrow.Author.Needs.{needs}
 use lib.ListN.{length}
+use Rattle.hadamard.specs.Transform.{output}
 use Rattle.hadamard.specs.Steps.{lined, allLined, lineMost}
 use Rattle.hadamard.proofs.Places.{none-lined, more-lined, length-lined, next-line}
 use Rattle.hadamard.proofs.lines.Statement.{statement}
@@ -17,7 +18,7 @@ abbrev μ-loop : tie.MeasureT-loop
 μ-loop block₀ first step i₀ block i = 4 - i
 
 loop-holds : tie.Need-loop-holds Inv-loop μ-loop
-loop-holds c = let s = c .args in (search needs, none-lined 4 (s .first) (s .step) (s .block .now))
+loop-holds c = let s = c .args in (search needs, none-lined (output 4) 4 (s .first) (s .step) (s .block .now))
 
 mul-line4 : tie.Need-mul-line4 Inv-loop μ-loop
 mul-line4 c =
@@ -29,7 +30,7 @@ line4-requires : tie.Need-line4-requires Inv-loop μ-loop
 line4-requires c κs =
     let l = c .before .before in
     let s = l .before in
-    rw (l .loop .inv .1) (next-line 4 (s .args .first) (s .args .step) 4 lineMost (s .args .block .now) (s .pre) (l .loop .i) (omega arith))
+    rw (l .loop .inv .1) (next-line (output 4) 4 (s .args .first) (s .args .step) 4 lineMost (s .args .block .now) (s .pre) (l .loop .i) (omega arith))
 
 add-i : tie.Need-add-i Inv-loop μ-loop
 add-i c = search needs
@@ -42,11 +43,11 @@ loop-again c =
     let l = c .before .before .before .before in
     let s = l .before .args in (
       search needs,
-      c .before .line4 .ensures ∙ ap (lined 4 (l .loop .i * s .first) (s .step)) (l .loop .inv .1) ∙ more-lined 4 (s .first) (s .step) (l .loop .i) (s .block .now),
+      c .before .line4 .ensures ∙ ap (lined 4 (l .loop .i * s .first) (s .step)) (l .loop .inv .1) ∙ more-lined (output 4) 4 (s .first) (s .step) (l .loop .i) (s .block .now),
     )
 
 same-length : tie.Need-same-length Inv-loop μ-loop
-same-length c = let s = c .before .before .args in ap length (c .before .loop .inv .1) ∙ length-lined 4 (s .first) (s .step) (c .before .loop .i) (s .block .now)
+same-length c = let s = c .before .before .args in ap length (c .before .loop .inv .1) ∙ length-lined (output 4) 4 (s .first) (s .step) (c .before .loop .i) (s .block .now)
 
 returns : tie.Need-returns Inv-loop μ-loop
 returns c =
