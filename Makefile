@@ -30,7 +30,7 @@ WATCHED = $(BUILD)/tests/watched
 CRATES = $(shell find crates crates.txt -name must-fail -prune -o -type f -print)
 TOOL_OBJECTS = $(patsubst %.c,$(BUILD)/%.o,$(wildcard tool/*.c))
 # Programs of their own, or parts of one, beside the tests of the library.
-OTHER_TESTS = tests/film.c tests/watch.c $(wildcard tests/fuzz*.c)
+OTHER_TESTS = tests/film.c tests/stack.c tests/watch.c $(wildcard tests/fuzz*.c)
 CHECK_OBJECTS = $(patsubst %.c,$(BUILD)/%.o,$(filter-out $(OTHER_TESTS),$(wildcard tests/*.c)))
 
 OTHER = $(firstword $(filter-out $(MACHINE),x86_64 aarch64))
@@ -45,7 +45,7 @@ help:
 	@echo 'make fuzz              damaged films, pictures, costs and logs, with sanitizers; FUZZ_SECONDS=60 for each reader'
 	@echo 'make test              the gate: prove everything from nothing, try the must-fail edits, run the programs'
 	@echo 'make beside            run beside the Rust crate and compare'
-	@echo 'make bench             measure the speed'
+	@echo 'make bench             measure the speed; BEFORE=libbrinepulley.a: beside an older archive too'
 	@echo 'make clean             remove build/'
 	@echo
 	@printf '%-22s %s\n' 'TARGET=$(OTHER)' 'build for another machine than this one, under build/$(OTHER)/. Only then is anything installed,'
@@ -101,7 +101,7 @@ beside:
 	@$(MAKE) -C oracle beside
 
 bench:
-	@$(MAKE) -C bench bench
+	@$(MAKE) -C bench bench $(if $(BEFORE),BEFORE='$(abspath $(BEFORE))')
 
 clean:
 	rm -rf build

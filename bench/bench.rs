@@ -1,4 +1,6 @@
 //! The proved library beside the crate's portable Rust: the same inputs, one run, best of alternating rounds.
+#[cfg(before)]
+mod before;
 mod library;
 mod logs;
 #[allow(dead_code)] // the oracle wants more of them
@@ -142,11 +144,16 @@ impl Pair {
     }
 }
 
+/// A block for the transform to be timed on.
+fn block() -> Vec<i32> {
+    samples(64, 3).iter().map(|&s| i32::from(s) - 128).collect()
+}
+
 fn transform() {
-    let source: Vec<i32> = samples(64, 3).iter().map(|&s| i32::from(s) - 128).collect();
+    let source = block();
     let (mut a, mut b) = (source.clone(), source.clone());
     Scenes::door_hadamard(&mut a);
-    hadamard8x8(&mut b);
+    assert_eq!(hadamard8x8(&mut b), 0);
     assert_eq!(a, b);
     let [theirs, ours] = best(
         100_000,
@@ -157,7 +164,7 @@ fn transform() {
             },
             &mut || {
                 b.copy_from_slice(black_box(&source));
-                hadamard8x8(black_box(&mut b));
+                seen(hadamard8x8(black_box(&mut b)));
             },
         ],
     );
@@ -215,6 +222,10 @@ fn main() {
         pair.intra();
     }
     transform();
+    #[cfg(before)]
+    before::transform();
     step();
     logs::all();
+    #[cfg(before)]
+    before::same();
 }

@@ -32,6 +32,7 @@ part() { # NAME WORDS..
 part 'library' $RUN "$CHECK"
 part 'command' sh "$here/command.sh"
 part 'archive' sh "$here/archive.sh"
+part 'stack' sh "$here/stack.sh"
 part 'build' sh "$here/build.sh"
 part 'documents' sh "$here/documents.sh"
 echo "$passed passed, $failed failed"

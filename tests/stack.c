@@ -1,0 +1,129 @@
+/* Runs each measure on a stack of its own that was painted before, and prints its name and how many bytes of that stack it used.
+ * What its caller takes is left out: a function that does nothing, called in the same way, tells it. */
+#include "brinepulley.h"
+
+#include <stdio.h>
+#include <string.h>
+#include <ucontext.h>
+
+enum { PAINT = 0xA5, WIDTH = 67, HEIGHT = 35, COUNT = WIDTH * HEIGHT, BLOCKS = (WIDTH / 8) * (HEIGHT / 8) };
+
+/* x86-64 has the return address on the stack: the function that does nothing takes as much, and it counts. */
+#ifdef __x86_64__
+enum { RETURN_ADDRESS = 8 };
+#else
+enum { RETURN_ADDRESS = 0 };
+#endif
+
+static uint8_t first[COUNT], second[COUNT];
+static uint32_t costs[BLOCKS];
+static int32_t list[64];
+static double real;
+static int64_t answer;
+
+/* What is called: a measure, or `nothing`. Volatile, so that it is called and not moved into its caller. */
+typedef void any(void);
+static any *volatile callee;
+
+static int64_t nothing(void)
+{
+    return 0;
+}
+
+#define PLANE const uint8_t *, size_t, size_t, size_t, size_t, size_t
+#define LENT(samples) samples, COUNT, WIDTH, HEIGHT, WIDTH, 0
+
+static void call_sides(void)
+{
+    answer = ((int64_t (*)(size_t, size_t, uint32_t))callee)(640, 480, BRINE_MODE_FAST);
+}
+
+static void call_planes(void)
+{
+    answer = ((int64_t (*)(uint32_t, PLANE, PLANE))callee)(8, LENT(first), LENT(second));
+}
+
+static void call_planes_real(void)
+{
+    answer = ((int64_t (*)(uint32_t, PLANE, PLANE, double *))callee)(8, LENT(first), LENT(second), &real);
+}
+
+static void call_planes_costs(void)
+{
+    answer = ((int64_t (*)(uint32_t, PLANE, PLANE, uint32_t *, size_t))callee)(8, LENT(first), LENT(second), costs, BLOCKS);
+}
+
+static void call_costs(void)
+{
+    answer = ((int64_t (*)(const uint32_t *, size_t, size_t, double *))callee)(costs, BLOCKS, BLOCKS, &real);
+}
+
+static void call_list16(void)
+{
+    answer = ((int64_t (*)(int32_t *, size_t))callee)(list, 16);
+}
+
+static void call_list64(void)
+{
+    answer = ((int64_t (*)(int32_t *, size_t))callee)(list, 64);
+}
+
+static void call_blocks(void)
+{
+    answer = ((int64_t (*)(const uint8_t *, size_t, const uint8_t *, size_t))callee)(first, 64, second, 64);
+}
+
+static const struct measure {
+    const char *name;
+    any *function, *call;
+} measures[] = {
+    {"brine_scale_factor", (any *)brine_scale_factor, call_sides},
+    {"brine_plane_difference", (any *)brine_plane_difference, call_planes},
+    {"brine_importance_total", (any *)brine_importance_total, call_planes},
+    {"brine_delta", (any *)brine_delta, call_planes_real},
+    {"brine_importance", (any *)brine_importance, call_planes_real},
+    {"brine_intra_costs", (any *)brine_intra_costs, call_planes_costs},
+    {"brine_threshold", (any *)brine_threshold, call_costs},
+    {"brine_hadamard4x4", (any *)brine_hadamard4x4, call_list16},
+    {"brine_hadamard8x8", (any *)brine_hadamard8x8, call_list64},
+    {"brine_satd8x8", (any *)brine_satd8x8, call_blocks},
+    {0},
+};
+
+static size_t used(any *function, any *call)
+{
+    static unsigned char stack[1 << 16];
+    static ucontext_t here, there;
+    callee = function;
+    for (int32_t i = 0; i < 64; i++)
+        list[i] = i * 1000 - 32000; /* a transform leaves other numbers */
+    memset(stack, PAINT, sizeof stack);
+    if (getcontext(&there) != 0)
+        return sizeof stack;
+    there.uc_stack.ss_sp = stack;
+    there.uc_stack.ss_size = sizeof stack;
+    there.uc_link = &here;
+    makecontext(&there, call, 0);
+    if (swapcontext(&here, &there) != 0)
+        return sizeof stack;
+    size_t clean = 0;
+    while (clean < sizeof stack && stack[clean] == PAINT)
+        clean++;
+    return sizeof stack - clean;
+}
+
+int main(void)
+{
+    for (size_t i = 0; i < COUNT; i++) {
+        first[i] = (uint8_t)(i * i / 7);
+        second[i] = (uint8_t)(i * 31);
+    }
+    for (const struct measure *m = measures; m->name != NULL; m++) {
+        size_t callers = used((any *)nothing, m->call);
+        size_t bytes = used(m->function, m->call) - callers + RETURN_ADDRESS;
+        if (answer < 0)
+            return 1; /* a refused call would not go all the way */
+        printf("%s %zu\n", m->name, bytes);
+    }
+    return 0;
+}

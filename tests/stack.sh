@@ -1,0 +1,79 @@
+#!/bin/sh
+# Tests of how much stack the measures take, their whole call trees included: as bench/frames.sh tells it from the archive's code,
+# and as a run shows it. A measure is what the header declares under that name.
+# ARCHIVE, NM, OBJDUMP, COMPILER, STATIC, RUN and TARGET come from the Makefile. Its last line is 'N passed, M failed'.
+set -u
+SUITE=stack
+. "$(dirname "$0")/verdict.sh"
+
+here=$(dirname "$0")
+header=$here/../include/brinepulley.h
+most=2048 # the stack of the board's measuring task
+
+told() { sh "$here/../bench/frames.sh" "$TARGET" "$1" "$NM" "$OBJDUMP" 2> "$room/err"; }
+# Names and depths alone.
+depths() { awk -F ' *[|] *' '{ print $2, $3 }' "$1"; }
+
+told "$ARCHIVE" > "$room/rows"
+verdict "the depth of every function can be told" $?
+depths "$room/rows" > "$room/depths"
+awk '/^\/\* ---- /{ on = /---- measures ----/ } on' "$header" | grep -oE '\bbrine_[a-z0-9_]+ *\(' | tr -d ' (' | sort -u > "$room/measures"
+[ "$(wc -l < "$room/measures")" -ge 10 ]
+verdict "the header declares ten measures or more" $?
+cut -d ' ' -f 1 "$room/depths" | sort > "$room/names"
+comm -23 "$room/measures" "$room/names" > "$room/log"
+[ ! -s "$room/log" ]
+verdict "every measure has its depth" $?
+
+# A depth is the whole of it only where nothing outside the archive is called.
+grep -w -F -f "$room/measures" "$room/rows" | grep 'outside:' > "$room/log"
+[ ! -s "$room/log" ]
+verdict "no measure calls another library" $?
+
+within() { # DEPTHS: each at most `most`
+    awk -v most="$most" '!($2 ~ /^[0-9]+$/ && $2 <= most)' "$1" > "$room/log"
+    [ -s "$1" ] && [ ! -s "$room/log" ]
+}
+grep -w -F -f "$room/measures" "$room/depths" > "$room/few"
+within "$room/few"
+verdict "every measure takes $most bytes of stack at most" $?
+
+# A run takes no more than was told, and SATD really takes its block of differences.
+# shellcheck disable=SC2086 # words
+$COMPILER -std=c11 -D_POSIX_C_SOURCE=200809L -O2 -Wall -Wextra -Werror -I"$here/../include" $STATIC -o "$room/stack" "$here/stack.c" \
+    "$ARCHIVE" > "$room/log" 2>&1
+verdict "the program that runs them compiles" $?
+$RUN "$room/stack" > "$room/used" 2> "$room/err"
+verdict "it runs them" $?
+cut -d ' ' -f 1 "$room/used" | sort | diff "$room/measures" - > "$room/log"
+verdict "it runs every measure" $?
+awk 'NR == FNR { told[$1] = $2; next } !($1 in told) || $2 > told[$1]' "$room/depths" "$room/used" > "$room/log"
+[ -s "$room/used" ] && [ ! -s "$room/log" ]
+verdict "a run takes no more than was told" $?
+awk '$1 == "brine_satd8x8" && $2 >= 256 { found = 1 } END { exit !found }' "$room/used"
+verdict "a run of SATD takes 256 bytes or more" $?
+
+# What the tests are to see: compiled functions that take more, or whose stack cannot be told.
+object() { # NAME PROGRAM
+    echo "$2" > "$room/$1.c"
+    $COMPILER -O2 -fno-stack-protector -c -o "$room/$1.o" "$room/$1.c" > "$room/log" 2>&1
+}
+depth() { # NAME: of its only function that is shown, in $room/few
+    told "$room/$1.o" > "$room/rows" && depths "$room/rows" > "$room/few"
+}
+unclear() { # NAME PROGRAM
+    object "$1" "$2" && ! told "$room/$1.o" > "$room/log" && grep -q "^frames: $1: " "$room/err"
+    verdict "$1: a stack that cannot be told is said" $?
+}
+object deep 'static int __attribute__((noinline)) inner(int n) { volatile char room[1000]; room[n] = 1; return room[n / 2]; }
+int deep(int n) { volatile char room[1200]; room[n] = 2; return inner(n) + room[n / 3]; }'
+depth deep && ! within "$room/few" && awk '{ exit !($2 >= 2200 && $2 < 2400) }' "$room/few"
+verdict "a function and what it calls, too deep together, would be seen" $?
+object flat 'int flat(int n) { volatile char room[100]; room[n] = 1; return room[n / 2]; }'
+depth flat && awk '{ exit !($2 >= 100 && $2 < 200) }' "$room/few"
+verdict "what is used below the stack pointer would be seen" $?
+unclear through 'int through(int (*f)(void)) { return f() + 1; }'
+unclear again 'int again(int n) { return n < 2 ? n : again(n - 1) + again(n / 2); }'
+unclear measured 'int measured(int n) { volatile char room[n]; room[n / 2] = 1; return room[n / 3]; }'
+
+count
