@@ -29,6 +29,9 @@
  * writes must not overlap any other place that is lent to the same call; places that are only read may overlap. A function
  * keeps no pointer after it returns, and there is no hidden state: calls on different places may run in several threads.
  *
+ * Stack. A measure takes less than 2 KiB of it, with all that it calls (the tests hold it to that; docs/SPEED.md has each one's
+ * bytes). brine_detector_step takes nearly 6 KB.
+ *
  * A plane is a pointer to 8 bit samples, their number, then width, height, stride and origin: sample (x, y) is
  * samples[origin + y * stride + x]. Samples outside the plane's width and height are never read or written. Where a function
  * takes two planes, the numbers of the second end in 2. `depth` is the bits of a sample; 8 is the only depth so far.
