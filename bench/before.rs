@@ -1,9 +1,7 @@
 //! The 8×8 transform beside that of an older archive (`BEFORE=`): the same answer and the same list on ten million blocks, and
 //! the time of both.
-use std::hint::black_box;
-
 use crate::library::hadamard8x8;
-use crate::{best, line, seen};
+use crate::{accepted, line, transforms};
 
 const BLOCKS: u32 = 10_000_000;
 const ENTRIES: usize = 64;
@@ -31,7 +29,8 @@ impl Random {
 
     /// A number from -most to most.
     fn within(&mut self, most: i32) -> i32 {
-        (u64::from(self.next()) * (2 * most as u64 + 1) >> 32) as i32 - most
+        let most = i64::from(most);
+        ((i64::from(self.next()) * (2 * most + 1) >> 32) - most) as i32
     }
 
     /// Four kinds: of all sizes, of differences of bytes, of the largest sizes alone, and with one entry that may be out of range.
@@ -66,25 +65,7 @@ pub fn same() {
     println!("transform, before and now: {BLOCKS} blocks the same, {refused} of them refused");
 }
 
-/// A block that begins a line of the cache, so that both sides' blocks lie alike.
-#[repr(align(64))]
-struct Lined(Block);
-
 pub fn transform() {
-    let source = Lined(crate::block().try_into().unwrap());
-    let (mut a, mut b) = (Lined(source.0), Lined(source.0));
-    let [old, new] = best(
-        100_000,
-        [
-            &mut || {
-                a.0.copy_from_slice(&black_box(&source).0);
-                seen(before(&mut black_box(&mut a).0));
-            },
-            &mut || {
-                b.0.copy_from_slice(&black_box(&source).0);
-                seen(hadamard8x8(&mut black_box(&mut b).0));
-            },
-        ],
-    );
+    let [old, new] = transforms(|block| assert_eq!(before(block), 0), accepted);
     line("transform, before and now", "8×8", old, new, "with the copy of its input");
 }

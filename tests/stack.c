@@ -3,12 +3,13 @@
 #include "brinepulley.h"
 
 #include <stdio.h>
+#include <stdlib.h>
 #include <string.h>
 #include <ucontext.h>
 
 enum { PAINT = 0xA5, WIDTH = 67, HEIGHT = 35, COUNT = WIDTH * HEIGHT, BLOCKS = (WIDTH / 8) * (HEIGHT / 8) };
 
-/* x86-64 has the return address on the stack: the function that does nothing takes as much, and it counts. */
+/* On x86-64 a call leaves a return address on the stack. `nothing` leaves one too, so it is added again. */
 #ifdef __x86_64__
 enum { RETURN_ADDRESS = 8 };
 #else
@@ -99,13 +100,13 @@ static size_t used(any *function, any *call)
         list[i] = i * 1000 - 32000; /* a transform leaves other numbers */
     memset(stack, PAINT, sizeof stack);
     if (getcontext(&there) != 0)
-        return sizeof stack;
+        exit(1);
     there.uc_stack.ss_sp = stack;
     there.uc_stack.ss_size = sizeof stack;
     there.uc_link = &here;
     makecontext(&there, call, 0);
     if (swapcontext(&here, &there) != 0)
-        return sizeof stack;
+        exit(1);
     size_t clean = 0;
     while (clean < sizeof stack && stack[clean] == PAINT)
         clean++;

@@ -54,26 +54,44 @@ awk '$1 == "brine_satd8x8" && $2 >= 256 { found = 1 } END { exit !found }' "$roo
 verdict "a run of SATD takes 256 bytes or more" $?
 
 # What the tests are to see: compiled functions that take more, or whose stack cannot be told.
-object() { # NAME PROGRAM
+object() { # NAME PROGRAM OPTIONS..
     echo "$2" > "$room/$1.c"
-    $COMPILER -O2 -fno-stack-protector -c -o "$room/$1.o" "$room/$1.c" > "$room/log" 2>&1
+    object=$1
+    shift 2
+    $COMPILER -O2 -fno-stack-protector "$@" -c -o "$room/$object.o" "$room/$object.c" > "$room/log" 2>&1
 }
-depth() { # NAME: of its only function that is shown, in $room/few
-    told "$room/$1.o" > "$room/rows" && depths "$room/rows" > "$room/few"
+takes() { # NAME LEAST MOST: its only function that is shown
+    told "$room/$1.o" > "$room/rows" && depths "$room/rows" > "$room/few" &&
+        awk -v least="$2" -v most="$3" '{ exit !($2 >= least && $2 <= most) }' "$room/few"
 }
-unclear() { # NAME PROGRAM
-    object "$1" "$2" && ! told "$room/$1.o" > "$room/log" && grep -q "^frames: $1: " "$room/err"
-    verdict "$1: a stack that cannot be told is said" $?
+unclear() { # NAME: of a function or an object
+    ! told "$room/$1.o" > "$room/log" && grep -q "^frames: $1: " "$room/err"
+    verdict "$1: what cannot be told is said" $?
 }
 object deep 'static int __attribute__((noinline)) inner(int n) { volatile char room[1000]; room[n] = 1; return room[n / 2]; }
 int deep(int n) { volatile char room[1200]; room[n] = 2; return inner(n) + room[n / 3]; }'
-depth deep && ! within "$room/few" && awk '{ exit !($2 >= 2200 && $2 < 2400) }' "$room/few"
+takes deep 2200 2400 && ! within "$room/few"
 verdict "a function and what it calls, too deep together, would be seen" $?
-object flat 'int flat(int n) { volatile char room[100]; room[n] = 1; return room[n / 2]; }'
-depth flat && awk '{ exit !($2 >= 100 && $2 < 200) }' "$room/few"
-verdict "what is used below the stack pointer would be seen" $?
-unclear through 'int through(int (*f)(void)) { return f() + 1; }'
-unclear again 'int again(int n) { return n < 2 ? n : again(n - 1) + again(n / 2); }'
-unclear measured 'int measured(int n) { volatile char room[n]; room[n / 2] = 1; return room[n / 3]; }'
+# x86-64 takes no frame for it, and uses what is below the stack pointer.
+flat='int flat(int n) { volatile char room[100]; room[n] = 1; return room[n / 2]; }'
+object flat "$flat"
+takes flat 100 200
+verdict "a function that calls nothing would be seen" $?
+object flat "$flat" -fno-omit-frame-pointer
+takes flat 100 200
+verdict "the same by a frame pointer" $?
+object through 'int through(int (*f)(void)) { return f() + 1; }'
+unclear through
+object table 'int (*all[4])(int); int table(int n) { return all[n & 3](n) + 1; }'
+unclear table
+object again 'int again(int n) { return n < 2 ? n : again(n - 1) + again(n / 2); }'
+unclear again
+object measured 'int measured(int n) { volatile char room[n]; room[n / 2] = 1; return room[n / 3]; }'
+unclear measured
+object twice 'int twice(int n) { volatile char room[3000]; room[n] = 1; return room[n / 2]; }'
+mv "$room/twice.o" "$room/other.o"
+object twice 'int twice(int n) { return n; }'
+"${NM%nm}ar" rc "$room/both.a" "$room/twice.o" "$room/other.o" 2> "$room/log" && mv "$room/both.a" "$room/twice.o"
+unclear twice
 
 count

@@ -75,7 +75,7 @@ module _ (t : (ℕ → ℤ) → ℕ → ℤ) (n first step : ℕ) where
 
   module _ (c q : ℕ) (l : List ℤ) (p : LinesIn n c first step q l) where
     -- the lines to come are as they were
-    pub lined-left : (m a k : ℕ) → m ≤ a → a < c → k < n → lineEntry (allLinedBy t n first step m l) (a * first) step k ≡ lineEntry l (a * first) step k
+    lined-left : (m a k : ℕ) → m ≤ a → a < c → k < n → lineEntry (allLinedBy t n first step m l) (a * first) step k ≡ lineEntry l (a * first) step k
     lined-left m a k h a< k< =
         lined-other m l (a * first + k * step) (λ b i b< i< e. let s = p .own a b k i a< (omega arith) k< i< e in omega arith)
 

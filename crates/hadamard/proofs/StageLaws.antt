@@ -15,7 +15,7 @@ use Rattle.hadamard.proofs.Halves.{output-4, output-ext}
 use Rattle.hadamard.proofs.FourLaws.{nth-four, nth-within, four-within}
 use Rattle.hadamard.proofs.Places.{at-place, length-lined, lined-done}
 
-pub stage-ext : (f g : ℕ → ℤ) (k : ℕ) → ((j : ℕ) → j < 4 → f j ≡ g j) → stageOf f k ≡ stageOf g k
+stage-ext : (f g : ℕ → ℤ) (k : ℕ) → ((j : ℕ) → j < 4 → f j ≡ g j) → stageOf f k ≡ stageOf g k
 stage-ext f g k e = rw (e 0 (omega arith), e 1 (omega arith), e 2 (omega arith), e 3 (omega arith))
 
 pub stage-within : (m : ℕ) (f : ℕ → ℤ) → FourWithin m (fourOf f) → FourWithin (2 * m) (fourOf (stageOf f))

@@ -14,8 +14,8 @@ use Rattle.hadamard.specs.declared.Four.{Four}
 abbrev pub lineMost : ℕ
 lineMost = 16 * entryMost
 
-abbrev pub pairMost : ℕ
-pairMost = 2 * lineMost
+abbrev pub stageMost : ℕ
+stageMost = 2 * lineMost
 
 abbrev pub outMost : ℕ
 outMost = 4 * lineMost
@@ -56,10 +56,11 @@ unfoldable pub stores : ℕ → ℕ → ℕ → (ℕ → ℤ) → List ℤ → L
 stores zero at step g l = l
 stores (suc n) at step g l = set (stores n at step g l) (at + n * step) (g n)
 
--- l with t of the n entries of that line in their places, and with their transform
+-- l with the n entries of that line replaced by t of them
 abbrev pub linedBy : ((ℕ → ℤ) → ℕ → ℤ) → ℕ → ℕ → ℕ → List ℤ → List ℤ
 linedBy t n at step l = stores n at step (t (lineEntry l at step)) l
 
+-- by their transform
 abbrev pub lined : ℕ → ℕ → ℕ → List ℤ → List ℤ
 lined n = linedBy (output n) n
 
@@ -68,6 +69,7 @@ unfoldable pub allLinedBy : ((ℕ → ℤ) → ℕ → ℤ) → ℕ → ℕ → 
 allLinedBy t n first step zero l = l
 allLinedBy t n first step (suc m) l = linedBy t n (m * first) step (allLinedBy t n first step m l)
 
+-- after its lines' transforms
 abbrev pub allLined : ℕ → ℕ → ℕ → ℕ → List ℤ → List ℤ
 allLined n = allLinedBy (output n) n
 

@@ -1,13 +1,13 @@
 // The Hadamard transform in place, of four rows of four entries and of eight rows of eight. All lines have four entries:
 // 16 entries are four columns and four rows of four, and 64 are four columns of 16 and 16 rows of four. Each line is loaded,
-// transformed and stored in its place: there is no other list than the caller's.
+// transformed and stored in its place, the rows of 64 a stage at a time: there is no other list than the caller's.
 ghost use mathlib.Core.Path.{_≡_};
 ghost use Prim.Native.Nat.{_+_, _*_, _<_, _^_};
 ghost use lib.IntN.{natAbs};
 ghost use lib.ListN.{length};
 ghost use Rattle.answer.specs.Refusal.{refusal};
 ghost use Rattle.hadamard.specs.Transform.{output, entryMost, beyondMost, transformFault, afterTransform};
-ghost use Rattle.hadamard.specs.Steps.{countBeyond, twoOf, fourOf, nth, stageOf, FourWithin, lineEntry, stores, linedBy, lined, allLinedBy, allLined, LineIn, LinesIn, lineMost, pairMost, outMost};
+ghost use Rattle.hadamard.specs.Steps.{countBeyond, twoOf, fourOf, nth, stageOf, FourWithin, lineEntry, stores, linedBy, lined, allLinedBy, allLined, LineIn, LinesIn, lineMost, stageMost, outMost};
 
 // The largest entry, and the least.
 const MOST: i32 = 65535;
@@ -42,7 +42,7 @@ fn butterfly(a: i32, b: i32) -> Two
 
 // The sums of two pairs of neighbours, and then their differences: a stage of the transform.
 fn paired(x: Four) -> Four
-    requires { ⌜ FourWithin pairMost x ⌝ }
+    requires { ⌜ FourWithin stageMost x ⌝ }
     ensures { λ r. ⌜ r ≡ fourOf (stageOf (nth x)) ⌝ }
 {
     let a = butterfly(x.x0, x.x1);
@@ -134,7 +134,7 @@ fn columns(block: &mut [i32])
 
 // A stage of a line of four entries, in their places.
 fn stage(block: &mut [i32], at: usize, step: usize)
-    requires { ⌜ LineIn 4 at step pairMost (now block) ⌝ }
+    requires { ⌜ LineIn 4 at step stageMost (now block) ⌝ }
     ensures { λ _. ⌜ now (block .exit) ≡ linedBy stageOf 4 at step (now (block .entry)) ⌝ }
 {
     let y = paired(load(&block[..], at, step));
@@ -142,8 +142,8 @@ fn stage(block: &mut [i32], at: usize, step: usize)
 }
 
 // A stage of 16 rows of four.
-fn stages(block: &mut [i32])
-    requires { ⌜ LinesIn 4 16 4 1 pairMost (now block) ⌝ }
+fn stage_rows(block: &mut [i32])
+    requires { ⌜ LinesIn 4 16 4 1 stageMost (now block) ⌝ }
     ensures { λ _. ⌜ now (block .exit) ≡ allLinedBy stageOf 4 4 1 16 (now (block .entry)) ⌝ }
 {
     for i in 0..16 {
@@ -151,15 +151,15 @@ fn stages(block: &mut [i32])
     }
 }
 
-// The transform of 16 rows of four. A stage goes through all rows before the next one begins: where both stages of a row come
-// at once, the compiler moves its entries about six times, and four times so.
+// The transform of 16 rows of four. A stage goes through all rows before the next one begins: with both stages of a row at once
+// the compiler shuffles its entries six times, with one stage at a time twice in each.
 fn rows(block: &mut [i32])
     requires { ⌜ length (now block) ≡ 64 ⌝ }
     requires { ⌜ LinesIn 4 16 4 1 lineMost (now block) ⌝ }
     ensures { λ _. ⌜ now (block .exit) ≡ allLined 4 4 1 16 (now (block .entry)) ⌝ }
 {
-    stages(block);
-    stages(block);
+    stage_rows(block);
+    stage_rows(block);
 }
 
 // 1 for an entry out of range, else 0.

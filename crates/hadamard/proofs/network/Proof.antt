@@ -1,8 +1,7 @@
 -- `hadamard::network` meets its contract: two stages are the transform, and the first leaves small numbers. Assumes nothing.
 use mathlib.Core.Path.{_∙_}
-use native.Mathlib.Omega.{arith}
 use borrow.Author.Needs.{needs}
-use Rattle.hadamard.specs.Steps.{nth, stageOf, lineMost}
+use Rattle.hadamard.specs.Steps.{nth, lineMost}
 use Rattle.hadamard.proofs.StageLaws.{stage-within, two-stages}
 use Rattle.hadamard.proofs.network.Statement.{statement}
 use Rattle.hadamard.proofs.network.Tie as tie

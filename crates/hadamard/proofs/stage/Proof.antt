@@ -2,7 +2,7 @@
 use mathlib.Core.Path.{_≡_, _∙_}
 use native.Mathlib.Omega.{arith}
 use borrow.Author.Needs.{needs}
-use Rattle.hadamard.specs.Steps.{fourOf, nth, stageOf, lineEntry, pairMost}
+use Rattle.hadamard.specs.Steps.{fourOf, stageOf, lineEntry, stageMost}
 use Rattle.hadamard.proofs.FourLaws.{four-within, line-of-4}
 use Rattle.hadamard.proofs.StageLaws.{stage-within}
 use Rattle.hadamard.proofs.stage.Statement.{statement}
@@ -14,7 +14,7 @@ load-requires c κs = c .before .pre .room 3 (omega arith)
 paired-requires : tie.Need-paired-requires
 paired-requires c κs =
     let s = c .before .before in
-    rw (c .load .ensures) (four-within pairMost (lineEntry (s .args .block .now) (s .args .at) (s .args .step)) (s .pre .most))
+    rw (c .load .ensures) (four-within stageMost (lineEntry (s .args .block .now) (s .args .at) (s .args .step)) (s .pre .most))
 
 -- the stage is that of the line's own entries
 told : (c : tie.After-paired) → let s = c .before .before .before .args in c .paired .result ≡ fourOf (stageOf (lineEntry (s .block .now) (s .at) (s .step)))
@@ -24,7 +24,7 @@ store-requires : tie.Need-store-requires
 store-requires c κs =
     let s = c .before .before .before .before in
     let f = lineEntry (s .args .block .now) (s .args .at) (s .args .step) in
-    (s .pre .room 3 (omega arith), rw (told (c .before)) (stage-within pairMost f (four-within pairMost f (s .pre .most))))
+    (s .pre .room 3 (omega arith), rw (told (c .before)) (stage-within stageMost f (four-within stageMost f (s .pre .most))))
 
 same-length : tie.Need-same-length
 same-length c = search needs
