@@ -7,7 +7,7 @@
 #include <string.h>
 #include <ucontext.h>
 
-enum { PAINT = 0xA5, WIDTH = 67, HEIGHT = 35, COUNT = WIDTH * HEIGHT, BLOCKS = (WIDTH / 8) * (HEIGHT / 8) };
+enum { WIDTH = 67, HEIGHT = 35, COUNT = WIDTH * HEIGHT, BLOCKS = (WIDTH / 8) * (HEIGHT / 8) };
 
 /* On x86-64 a call leaves a return address on the stack. `nothing` leaves one too, so it is added again. */
 #ifdef __x86_64__
@@ -91,14 +91,14 @@ static const struct measure {
     {0},
 };
 
-static size_t used(any *function, any *call)
+static size_t used_with(any *function, any *call, unsigned char paint)
 {
     static unsigned char stack[1 << 16];
     static ucontext_t here, there;
     callee = function;
     for (int32_t i = 0; i < 64; i++)
         list[i] = i * 1000 - 32000; /* a transform leaves other numbers */
-    memset(stack, PAINT, sizeof stack);
+    memset(stack, paint, sizeof stack);
     if (getcontext(&there) != 0)
         exit(1);
     there.uc_stack.ss_sp = stack;
@@ -108,9 +108,16 @@ static size_t used(any *function, any *call)
     if (swapcontext(&here, &there) != 0)
         exit(1);
     size_t clean = 0;
-    while (clean < sizeof stack && stack[clean] == PAINT)
+    while (clean < sizeof stack && stack[clean] == paint)
         clean++;
     return sizeof stack - clean;
+}
+
+/* With two paints, since the lowest byte that is written may be like one of them. */
+static size_t used(any *function, any *call)
+{
+    size_t one = used_with(function, call, 0xA5), other = used_with(function, call, 0x5A);
+    return one > other ? one : other;
 }
 
 int main(void)
