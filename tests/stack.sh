@@ -82,8 +82,8 @@ takes flat 100 200
 verdict "the same by a frame pointer" $?
 object through 'int through(int (*f)(void)) { return f() + 1; }'
 unclear through
-object table 'int (*all[4])(int); int table(int n) { return all[n & 3](n) + 1; }'
-unclear table
+object kept 'int (*one)(int); int kept(int n) { return one(n) + 1; }'
+unclear kept
 object again 'int again(int n) { return n < 2 ? n : again(n - 1) + again(n / 2); }'
 unclear again
 object measured 'int measured(int n) { volatile char room[n]; room[n / 2] = 1; return room[n / 3]; }'
