@@ -8,7 +8,7 @@ const ENTRIES: usize = 64;
 /// The largest entry that is not refused.
 const MOST: i32 = 65535;
 
-type Block = [i32; ENTRIES];
+type List = [i32; ENTRIES];
 
 unsafe extern "C" {
     fn before_hadamard8x8(list: *mut i32, len: usize) -> i64;
@@ -34,18 +34,18 @@ impl Random {
     }
 
     /// Four kinds: of all sizes, of differences of bytes, of the largest sizes alone, and with one entry that may be out of range.
-    fn block(&mut self) -> Block {
+    fn list(&mut self) -> List {
         let kind = self.next() >> 30;
-        let mut block: Block = std::array::from_fn(|_| match kind {
+        let mut list: List = std::array::from_fn(|_| match kind {
             1 => self.within(255),
             2 => [-MOST, MOST][self.next() as usize >> 31],
             _ => self.within(MOST),
         });
         if kind == 3 {
             let place = self.next() as usize % ENTRIES;
-            block[place] = [MOST + 1, -MOST - 1, i32::MIN, i32::MAX, MOST, -MOST, self.within(i32::MAX), 0][self.next() as usize % 8];
+            list[place] = [MOST + 1, -MOST - 1, i32::MIN, i32::MAX, MOST, -MOST, self.within(i32::MAX), 0][self.next() as usize % 8];
         }
-        block
+        list
     }
 }
 
@@ -53,7 +53,7 @@ pub fn same() {
     let mut random = Random(2026);
     let mut refused = 0;
     for number in 0..BLOCKS {
-        let source = random.block();
+        let source = random.list();
         let (mut old, mut new) = (source, source);
         let answers = (before(&mut old), hadamard8x8(&mut new));
         assert!(answers.0 == answers.1 && old == new, "block {number}: {answers:?} of {source:?}: {old:?}, {new:?}");
