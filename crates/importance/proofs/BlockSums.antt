@@ -1,58 +1,27 @@
 -- Sums and means of blocks, over the largest sample k. Assumes nothing.
 use mathlib.Core.List.{List}
-use mathlib.Core.Path.{_≡_, refl, sym, _∙_}
-use Prim.Native.Nat.{ℕ, _+_, _-_, _*_, _≤_, _<_, _^_}
+use mathlib.Core.Path.{_≡_, sym, _∙_}
+use Prim.Native.Nat.{ℕ, _+_, _*_, _≤_, _<_, _^_}
 use native.Mathlib.Omega.{arith}
-use lib.ListN.{length, getD, take, drop}
-use lib.Seq.{getD-take, getD-drop}
-use Rattle.plane.specs.Blocks.{blockSide, blocksAcross, blocksDown, blockSample, blockRow}
-use Rattle.plane.specs.Needs.{blockStart}
+use lib.ListN.{length, getD}
+use Rattle.plane.specs.Blocks.{blockSide, blocksAcross, blocksDown, blockRow}
+use Rattle.plane.specs.Needs.{blockStart, squareFrom}
 use Rattle.plane.specs.Planes.{pairFault}
 use Rattle.plane.specs.declared.Plane.{Plane}
-use Rattle.plane.proofs.BlockLaws.{block-place, row-starts}
+use Rattle.plane.proofs.BlockLaws.{row-starts}
 use Rattle.plane.proofs.PlaneLaws.{Lies, Pair, pair, measured, total-fits}
+use Rattle.plane.proofs.SquareLaws.{square-is, square-most}
 use Rattle.sums.specs.Sums.{sumBelow, apart}
 use Rattle.sums.proofs.SumLaws.{sum-ext, sum-most, NextSum, next-sum}
 use Rattle.importance.specs.Importance.{blockSum, mean, blockDifference, blocksDifference, importanceTotal}
-use Rattle.importance.specs.Needs.{eightFrom, squareSum}
-
--- a block's sum by places is the plane's own
-pub square-is : (p : Plane) (s : List ℕ) (y x : ℕ) → squareSum s (blockStart p y x) (p .stride) ≡ blockSum p s y x
-square-is p s y x =
-    sum-ext blockSide (eightFrom s (blockStart p y x) (p .stride)) (λ (j : ℕ). sumBelow blockSide (λ (i : ℕ). blockSample p s y x j i))
-    (λ j _.
-    sum-ext blockSide (λ (i : ℕ). getD s (blockStart p y x + j * p .stride + i) 0) (λ (i : ℕ). blockSample p s y x j i)
-    (λ i _. sym (block-place p s y x j i)))
-
--- and so is the sum of a part that starts at a place
-pub part-sum : (s : List ℕ) (start n : ℕ) → start + n ≤ length s → sumBelow n (λ (i : ℕ). getD (take (length s - start) (drop start s)) i 0) ≡ sumBelow n (λ (i : ℕ). getD s (start + i) 0)
-part-sum s start n h =
-    sum-ext n (λ (i : ℕ). getD (take (length s - start) (drop start s)) i 0) (λ (i : ℕ). getD s (start + i) 0)
-    (λ i i<. getD-take (length s - start) (drop start s) i 0 (omega arith) ∙ getD-drop start s i 0)
 
 module _ (k : ℕ) (s : List ℕ) (l : (i : ℕ) → getD s i 0 ≤ k) where
-  -- n samples from a place on
-  samples-most : (start n : ℕ) → sumBelow n (λ (i : ℕ). getD s (start + i) 0) ≤ n * k
-  samples-most start n = sum-most k n (λ (i : ℕ). getD s (start + i) 0) (λ i _. l (start + i))
-
-  -- a row of eight, and a block
-  eight-most : (start stride j : ℕ) → eightFrom s start stride j ≤ blockSide * k
-  eight-most start stride j = samples-most (start + j * stride) blockSide
-
-  pub squares-most : (start stride : ℕ) → squareSum s start stride ≤ 64 * k
-  squares-most start stride = omega (arith, sum-most (blockSide * k) blockSide (eightFrom s start stride) (λ j _. eight-most start stride j))
-
-  -- a turn of the sum of a row, in a room that holds eight samples, and one of the sum of a block
-  pub row-next : (room : ℕ) → blockSide * k < room → (i sum : ℕ) → i < blockSide → sum ≡ sumBelow i (λ (n : ℕ). getD s n 0)
-      → NextSum room i sum (getD s i 0) (λ (n : ℕ). getD s n 0)
-  row-next room fits i sum h e = next-sum k blockSide room (λ (n : ℕ). getD s n 0) (λ j _. l j) fits i sum (getD s i 0) h e refl
-
-  pub block-next : (room start stride : ℕ) → blockSide * (blockSide * k) < room → (j sum part : ℕ) → j < blockSide
-      → sum ≡ sumBelow j (eightFrom s start stride) → part ≡ eightFrom s start stride j → NextSum room j sum part (eightFrom s start stride)
-  block-next room start stride fits = next-sum (blockSide * k) blockSide room (eightFrom s start stride) (λ j _. eight-most start stride j) fits
+  -- a block's sum, by its place and as the plane's own
+  pub squares-most : (start stride : ℕ) → squareFrom blockSide s start stride ≤ 64 * k
+  squares-most start stride = omega (arith, square-most k blockSide s l start stride)
 
   block-most : (p : Plane) (y x : ℕ) → blockSum p s y x ≤ 64 * k
-  block-most p y x = rw (sym (square-is p s y x)) (squares-most (blockStart p y x) (p .stride))
+  block-most p y x = rw (sym (square-is blockSide p s y x)) (squares-most (blockStart p y x) (p .stride))
 
 -- two means of such sums lie at most k apart
 pub means-most : (k m n : ℕ) → m ≤ 64 * k → n ≤ 64 * k → apart (mean m) (mean n) ≤ k
@@ -61,7 +30,7 @@ means-most k m n h i = omega arith
 -- the difference of block x, by the places where its row of blocks starts
 abbrev pub gapOf : List ℕ → ℕ → ℕ → List ℕ → ℕ → ℕ → ℕ → ℕ
 gapOf a start step b start2 step2 x =
-    apart (mean (squareSum a (start + x * blockSide) step)) (mean (squareSum b (start2 + x * blockSide) step2))
+    apart (mean (squareFrom blockSide a (start + x * blockSide) step)) (mean (squareFrom blockSide b (start2 + x * blockSide) step2))
 
 -- all of the row is the planes' own
 pub gaps-are : (p : Plane) (a : List ℕ) (q : Plane) (b : List ℕ) (y start start2 : ℕ)
@@ -72,8 +41,8 @@ gaps-are p a q b y start start2 h hy e d =
     (λ x _. rw (
       e ∙ row-starts p (length a) y (h .first) hy,
       d ∙ row-starts q (length b) y (h .second) (omega (arith, h .heights)),
-      square-is p a y x,
-      square-is q b y x,
+      square-is blockSide p a y x,
+      square-is blockSide q b y x,
     ))
 
 module _ (k : ℕ) (a b : List ℕ) (l : (i : ℕ) → getD a i 0 ≤ k) (m : (i : ℕ) → getD b i 0 ≤ k) (start step start2 step2 : ℕ) where

@@ -1,21 +1,22 @@
 -- Document 01, "Importance": how far the rounded means of two planes' whole blocks lie apart.
-use Prim.Native.Nat.{ℕ, _+_, _/_}
+use Prim.Native.Nat.{ℕ, _*_}
 use mathlib.Core.List.{List}
 use lib.Ieee.{Float}
 use Rattle.answer.specs.Answer.{Answer}
-use Rattle.plane.specs.Blocks.{blockSide, blocksAcross, blocksDown, blockCount, blockSample}
+use Rattle.plane.specs.Blocks.{blockSide, blocksAcross, blocksDown, blockCount, squareSum}
 use Rattle.plane.specs.Planes.{pairAnswer}
 use Rattle.plane.specs.declared.Plane.{Plane}
+use Rattle.sums.specs.Means.{meanOf}
 use Rattle.sums.specs.Quotient.{quotientOf}
 use Rattle.sums.specs.Sums.{sumBelow, apart}
 
 -- "Per whole 8×8 block": the sum of its samples
 abbrev pub blockSum : Plane → List ℕ → ℕ → ℕ → ℕ
-blockSum p s y x = sumBelow blockSide (λ (j : ℕ). sumBelow blockSide (λ (i : ℕ). blockSample p s y x j i))
+blockSum = squareSum blockSide
 
 -- "(sum + 32) / 64 rounded down in each plane"
 abbrev pub mean : ℕ → ℕ
-mean sum = (sum + 32) / 64
+mean = meanOf (blockSide * blockSide)
 
 -- "then the absolute difference"
 abbrev pub blockDifference : Plane → List ℕ → Plane → List ℕ → ℕ → ℕ → ℕ

@@ -1,2 +1,1 @@
 pub mod Importance
-pub mod Needs

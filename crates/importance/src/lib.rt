@@ -8,11 +8,11 @@ ghost use Prim.Native.Nat.{ℕ, _+_, _*_, _≤_, _<_};
 ghost use lib.ListN.{length, getD};
 ghost use Rattle.answer.specs.Answer.{wholeAnswer, realAnswer};
 ghost use Rattle.plane.specs.Blocks.{blockSide, blocksDown};
+ghost use Rattle.plane.specs.Needs.{squareFrom};
 ghost use Rattle.plane.specs.Planes.{sizesFault};
 ghost use Rattle.sums.specs.Needs.{byteMost};
 ghost use Rattle.sums.specs.Sums.{sumBelow, apart};
 ghost use Rattle.importance.specs.Importance.{mean, blocksDifference, importanceTotal, totalOf, importanceOf};
-ghost use Rattle.importance.specs.Needs.{squareSum};
 
 // The sum of a part's first eight samples. The sums of a block are kept in 16 bits, so that one vector instruction adds
 // eight of them; in 32 bits it adds four, and every sample is widened twice.
@@ -30,7 +30,7 @@ fn sum_row(s: &[u8]) -> u16
 // The sum of the block that starts at a place.
 fn sum_8x8_block(s: &[u8], start: usize, stride: usize) -> u16
     requires { ⌜ ((j : ℕ) → j < blockSide → start + j * stride + blockSide ≤ length (now s)) ⌝ }
-    ensures { λ r. ⌜ r ≡ squareSum (now (s .entry)) start stride ⌝ }
+    ensures { λ r. ⌜ r ≡ squareFrom blockSide (now (s .entry)) start stride ⌝ }
 {
     let mut sum: u16 = 0;
     for j in 0..BLOCK_SIDE {

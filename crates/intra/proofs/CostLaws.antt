@@ -28,11 +28,11 @@ use Rattle.sums.specs.Table.{table}
 use Rattle.sums.specs.Written.{written}
 use Rattle.sums.proofs.TableLaws.{length-table, table-at, table-ext}
 use Rattle.sums.proofs.WrittenLaws.{written-value}
-use Rattle.intra.specs.Fill.{inRun}
+use Rattle.sums.specs.Places.{inRun}
 use Rattle.intra.specs.Costs.{blockOf, prediction, costAt, intraFault}
 use Rattle.intra.specs.Needs.{SquareIn, squareAt, squareOf, squareCost}
-use Rattle.intra.proofs.FillLaws.{run-holds}
-use Rattle.intra.proofs.Wrote.{Wrote, wrote-all}
+use Rattle.sums.proofs.PlaceLaws.{run-holds}
+use Rattle.sums.proofs.Wrote.{Wrote, wrote-all}
 
 -- sample k of row y, read from the part that starts at the row, is the block's
 pub row-of-square : (s : List ℕ) (start stride y k : ℕ) → start + y * stride + 8 ≤ length s → k < 8

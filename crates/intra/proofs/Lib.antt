@@ -1,4 +1,2 @@
-pub mod Wrote
-pub mod FillLaws
 pub mod CostLaws
 pub mod Unique

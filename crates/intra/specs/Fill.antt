@@ -1,26 +1,16 @@
 -- Document 01, "Intra cost": what the work plane holds afterwards.
-use Prim.Native.Nat.{ℕ, _+_, _*_}
-use mathlib.Core.Bool.{Bool, _&&_}
+use Prim.Native.Nat.{ℕ, _*_}
 use mathlib.Core.List.{List}
-use lib.Dec.{leb, ltb}
 use Rattle.plane.specs.Blocks.{blockSide, blocksAcross, blocksDown}
 use Rattle.plane.specs.declared.Plane.{Plane}
-use Rattle.sums.specs.Any.{anyBelow}
+use Rattle.sums.specs.Places.{inRows}
 use Rattle.sums.specs.Written.{written}
 
 -- "flat 128": what samples of 8 bits are predicted to be
 abbrev pub flatSample : ℕ
 flatSample = 128
 
--- place k is one of the n places from `start` on
-abbrev pub inRun : ℕ → ℕ → ℕ → Bool
-inRun start n k = leb start k && ltb k (start + n)
-
--- place k lies in one of m rows of n places, the first from `start` on and each next a stride further
-unfoldable pub inRows : ℕ → ℕ → ℕ → ℕ → ℕ → Bool
-inRows start stride m n k = anyBelow m (λ (j : ℕ). inRun (start + j * stride) n k)
-
--- those rows filled flat; every other place stays
+-- m rows of n places, the first from `start` on and each next a stride further, filled flat; every other place stays
 abbrev pub filled : ℕ → ℕ → ℕ → ℕ → ℕ → List ℕ → List ℕ
 filled flat start stride m n s = written (inRows start stride m n) (λ (k : ℕ). flat) s
 

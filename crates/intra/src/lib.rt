@@ -10,8 +10,9 @@ ghost use Rattle.answer.specs.Answer.{wholeAnswer};
 ghost use Rattle.plane.specs.Blocks.{blockSide, blocksAcross, blocksDown, blockCount, blocksStart};
 ghost use Rattle.plane.specs.Planes.{sizesFault};
 ghost use Rattle.satd.specs.Satd.{blockSize};
+ghost use Rattle.sums.specs.Places.{inRun};
 ghost use Rattle.sums.specs.Written.{written};
-ghost use Rattle.intra.specs.Fill.{inRun, filled, workAfter};
+ghost use Rattle.intra.specs.Fill.{filled, workAfter};
 ghost use Rattle.intra.specs.Costs.{costAt, costsAfter, intraFault, intraOf, workOf, costsOf};
 ghost use Rattle.intra.specs.Needs.{SquareIn, squareOf, squareCost};
 

@@ -1,6 +1,6 @@
 -- Where the whole blocks of a plane lie. Assumes nothing.
 use mathlib.Core.List.{List}
-use mathlib.Core.Path.{_≡_, ap}
+use mathlib.Core.Path.{_≡_}
 use Prim.Native.Nat.{ℕ, _+_, _*_, _≤_, _<_}
 use native.Mathlib.Nat.{add-mul, mul-le-mul}
 use native.Mathlib.Omega.{arith}
@@ -11,6 +11,7 @@ use Rattle.plane.specs.Blocks.{blockSide, blocksAcross, blocksDown, bloc
 use Rattle.plane.specs.Needs.{blockStart}
 use Rattle.plane.specs.Planes.{maxSide, rowEnd}
 use Rattle.plane.proofs.PlaneLaws.{Lies, row-in}
+use Rattle.plane.proofs.SquareLaws.{square-place}
 
 -- how many there are at most, which any integer of 64 bits holds
 pub count-most : (p : Plane) (n : ℕ) → Lies p n → blockCount p ≤ maxSide * maxSide
@@ -37,7 +38,4 @@ block-from p n y start l hy e x hx j hj = omega (arith, row-starts p n y l hy, b
 
 -- a sample of a block, by its place
 pub block-place : (p : Plane) (s : List ℕ) (y x j i : ℕ) → blockSample p s y x j i ≡ getD s (blockStart p y x + j * p .stride + i) 0
-block-place p s y x j i =
-    let place : p .origin + (y * blockSide + j) * p .stride + (x * blockSide + i) ≡ blockStart p y x + j * p .stride + i =
-    omega (arith, add-mul (y * blockSide) j (p .stride)) in
-    ap (λ (k : ℕ). getD s k 0) place
+block-place = square-place blockSide

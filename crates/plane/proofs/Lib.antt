@@ -1,3 +1,4 @@
 pub mod PlaneLaws
 pub mod BlockLaws
+pub mod SquareLaws
 pub mod Unique

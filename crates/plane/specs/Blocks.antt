@@ -1,10 +1,24 @@
--- Document 01, "Importance" and "Intra cost": the whole 8×8 blocks of a plane. Block (x, y) is in row y of blocks and column x.
+-- Document 01, "Importance" and "Intra cost": the whole 8×8 blocks of a plane. Block (x, y) is in row y of blocks and column x. They are its
+-- squares of side 8; a plane is reduced by its squares of another side.
 use Prim.Native.Nat.{ℕ, _+_, _*_, _/_}
 use mathlib.Core.Bool.{_&&_, cond}
 use mathlib.Core.List.{List}
 use lib.Dec.{ltb, leb}
+use Rattle.sums.specs.Sums.{sumBelow}
 use Rattle.plane.specs.declared.Plane.{Plane}
 use Rattle.plane.specs.Planes.{sampleAt, rowEnd}
+
+-- ---- squares
+
+-- sample (i, j) of square (x, y), where a square has n samples on each side
+abbrev pub squareSample : ℕ → Plane → List ℕ → ℕ → ℕ → ℕ → ℕ → ℕ
+squareSample n p s y x j i = sampleAt p s (y * n + j) (x * n + i)
+
+-- the sum of its samples
+abbrev pub squareSum : ℕ → Plane → List ℕ → ℕ → ℕ → ℕ
+squareSum n p s y x = sumBelow n (λ (j : ℕ). sumBelow n (λ (i : ℕ). squareSample n p s y x j i))
+
+-- ---- blocks
 
 abbrev pub blockSide : ℕ
 blockSide = 8
@@ -21,7 +35,7 @@ blockCount p = blocksDown p * blocksAcross p
 
 -- sample (i, j) of block (x, y)
 abbrev pub blockSample : Plane → List ℕ → ℕ → ℕ → ℕ → ℕ → ℕ
-blockSample p s y x j i = sampleAt p s (y * blockSide + j) (x * blockSide + i)
+blockSample = squareSample blockSide
 
 -- where row y of blocks starts, counted from the first lent sample
 abbrev pub blocksStart : Plane → ℕ → ℕ

@@ -1,5 +1,5 @@
 -- The laws of `sumBelow`. Each is stated over the function that is summed, so that it serves samples of any width. Assumes nothing.
-use mathlib.Core.Path.{_≡_, refl}
+use mathlib.Core.Path.{_≡_, refl, sym, ap, _∙_}
 use Prim.Native.Nat.{ℕ, zero, suc, _+_, _*_, _≤_, _<_}
 use native.Mathlib.Nat.{add-zero, add-suc, mul-le-mul-right}
 use native.Mathlib.Numerals.{add-one}
@@ -49,3 +49,35 @@ next-sum b n room f most fits i sum part h e d =
     let so-far = sum-most b (i + 1) f (λ j l. most j (omega arith)) in
     let all : (i + 1) * b ≤ n * b = mul-le-mul-right b (omega arith) in
     (omega arith, omega arith)
+
+-- ---- sums of sums
+
+-- of two numbers for each place
+sum-both : (n : ℕ) (f g : ℕ → ℕ) → sumBelow n (λ (i : ℕ). f i + g i) ≡ sumBelow n f + sumBelow n g
+unfolding sumBelow
+sum-both zero f g = refl
+sum-both (suc n) f g = let rest = sum-both n f g in omega arith
+
+-- of no number but 0
+sum-zeros : (n : ℕ) → sumBelow n (λ (i : ℕ). 0) ≡ 0
+unfolding sumBelow
+sum-zeros zero = refl
+sum-zeros (suc n) = let rest = sum-zeros n in omega arith
+
+-- by rows or by columns
+pub sum-swap : (m n : ℕ) (f : ℕ → ℕ → ℕ) → sumBelow m (λ (i : ℕ). sumBelow n (λ (j : ℕ). f i j)) ≡ sumBelow n (λ (j : ℕ). sumBelow m (λ (i : ℕ). f i j))
+unfolding sumBelow
+sum-swap zero n f = sym (sum-zeros n)
+sum-swap (suc m) n f =
+    ap (λ (k : ℕ). k + sumBelow n (f m)) (sum-swap m n f) ∙ sym (sum-both n (λ (j : ℕ). sumBelow m (λ (i : ℕ). f i j)) (f m))
+
+-- by pairs of neighbours
+pub sum-pairs : (n : ℕ) (f : ℕ → ℕ) → sumBelow n (λ (i : ℕ). f (2 * i) + f (2 * i + 1)) ≡ sumBelow (2 * n) f
+unfolding sumBelow
+sum-pairs zero f = refl
+sum-pairs (suc n) f =
+    let rest = sum-pairs n f in
+    let one = sum-more (2 * n) f in
+    let two = sum-more (2 * n + 1) f in
+    let ends : 2 * suc n ≡ 2 * n + 1 + 1 = omega arith in
+    rw ends (omega arith)

@@ -5,16 +5,16 @@ use native.Mathlib.Omega.{arith}
 use borrow.Author.Needs.{needs}
 use lib.ListN.{length, length-take, length-drop}
 use Rattle.plane.specs.Blocks.{blockSide}
+use Rattle.plane.specs.Needs.{rowFrom}
+use Rattle.plane.proofs.SquareLaws.{part-sum, square-next}
 use Rattle.sums.specs.Needs.{byteMost}
 use Rattle.sums.specs.Sums.{sumBelow}
 use Rattle.sums.proofs.SumLaws.{NextSum, sum-none, sum-to}
-use Rattle.importance.specs.Needs.{eightFrom}
-use Rattle.importance.proofs.BlockSums.{part-sum, block-next}
 use Rattle.importance.proofs.sum_8x8_block.Statement.{statement}
 use Rattle.importance.proofs.sum_8x8_block.Tie as tie
 
 abbrev Inv-loop : tie.InvT-loop
-Inv-loop s start stride sum₀ j₀ sum j = (j ≤ blockSide) × (sum ≡ sumBelow j (eightFrom s start stride))
+Inv-loop s start stride sum₀ j₀ sum j = (j ≤ blockSide) × (sum ≡ sumBelow j (rowFrom blockSide s start stride))
 
 abbrev μ-loop : tie.MeasureT-loop
 μ-loop s start stride sum₀ j₀ sum j = blockSide - j
@@ -49,11 +49,11 @@ sum-row-requires c κs = simp (length-take, length-drop) (omega (arith, inside (
 next : (c : tie.After-sum-row Inv-loop μ-loop)
     → let l = c .before .before .before in
     let s = l .before .before .args in
-    NextSum (2 ^ 16) (l .loop .j) (l .loop .sum) (c .sum-row .result) (eightFrom (s .s .now) (s .start) (s .stride))
+    NextSum (2 ^ 16) (l .loop .j) (l .loop .sum) (c .sum-row .result) (rowFrom blockSide (s .s .now) (s .start) (s .stride))
 next c =
     let l = c .before .before .before in
     let s = l .before .before .args in
-    block-next byteMost (s .s .now) (λ i. omega (arith, l .before .shared-slice-known .given i)) (2 ^ 16) (s .start) (s .stride) (omega arith)
+    square-next byteMost blockSide (s .s .now) (λ i. omega (arith, l .before .shared-slice-known .given i)) (2 ^ 16) (s .start) (s .stride) (omega arith)
     (l .loop .j) (l .loop .sum) (c .sum-row .result) (omega arith) (l .loop .inv .1)
     (c .sum-row .ensures ∙ part-sum (s .s .now) (s .start + l .loop .j * s .stride) blockSide (inside (c .before .before)))
 

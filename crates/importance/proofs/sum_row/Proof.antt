@@ -1,14 +1,14 @@
 -- `importance::sum_row` meets its contract. After i turns the sum is that of the first i samples. Assumes nothing.
-use mathlib.Core.Path.{_≡_}
+use mathlib.Core.Path.{_≡_, refl}
 use Prim.Native.Nat.{ℕ, _^_, _≤_, _-_}
 use native.Mathlib.Omega.{arith}
 use borrow.Author.Needs.{needs}
 use lib.ListN.{getD}
 use Rattle.plane.specs.Blocks.{blockSide}
+use Rattle.plane.proofs.SquareLaws.{row-next}
 use Rattle.sums.specs.Needs.{byteMost}
 use Rattle.sums.specs.Sums.{sumBelow}
 use Rattle.sums.proofs.SumLaws.{NextSum, sum-none, sum-to}
-use Rattle.importance.proofs.BlockSums.{row-next}
 use Rattle.importance.proofs.sum_row.Statement.{statement}
 use Rattle.importance.proofs.sum_row.Tie as tie
 
@@ -33,7 +33,7 @@ next : (c : tie.After-shared-slice-known Inv-loop μ-loop)
     NextSum (2 ^ 16) (l .loop .i) (l .loop .sum) (getD s (l .loop .i) 0) (λ (n : ℕ). getD s n 0)
 next c =
     let l = c .before .before in
-    row-next byteMost (l .before .args .s .now) (λ i. omega (arith, c .shared-slice-known .given i)) (2 ^ 16) (omega arith) (l .loop .i) (l .loop .sum) (omega arith) (l .loop .inv .1)
+    row-next byteMost blockSide (l .before .args .s .now) (λ i. omega (arith, c .shared-slice-known .given i)) (2 ^ 16) (λ (n : ℕ). n) (omega arith) (l .loop .i) (l .loop .sum) _ (omega arith) (l .loop .inv .1) refl
 
 add-sum : tie.Need-add-sum Inv-loop μ-loop
 add-sum c = record { fits = next c .1 }

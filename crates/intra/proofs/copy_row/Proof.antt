@@ -6,7 +6,7 @@ use borrow.Author.Needs.{needs}
 use lib.Dec.{ltb}
 use lib.ListN.{getD}
 use Rattle.plane.specs.Blocks.{blockSide}
-use Rattle.intra.proofs.Wrote.{Wrote, wrote-all, front-none, front-more}
+use Rattle.sums.proofs.Wrote.{Wrote, wrote-all, front-none, front-more}
 use Rattle.intra.proofs.copy_row.Statement.{statement}
 use Rattle.intra.proofs.copy_row.Tie as tie
 

@@ -10,8 +10,8 @@ use Rattle.satd.specs.Satd.{blockSize}
 use Rattle.sums.proofs.WrittenLaws.{prefix-all}
 use Rattle.intra.specs.Needs.{squareAt}
 use Rattle.intra.proofs.CostLaws.{row-of-square}
-use Rattle.intra.proofs.FillLaws.{fronts-next}
-use Rattle.intra.proofs.Wrote.{Wrote, wrote-part, wrote-all, front-none}
+use Rattle.sums.proofs.PlaceLaws.{fronts-next}
+use Rattle.sums.proofs.Wrote.{Wrote, wrote-part, wrote-all, front-none}
 use Rattle.intra.proofs.load_block.Statement.{statement}
 use Rattle.intra.proofs.load_block.Tie as tie
 

@@ -1,5 +1,5 @@
--- A loop that writes a list place by place, row by row or block by block: what the list holds after each turn. Every loop of this crate that
--- writes is one of these; none of the laws speaks of a sample's width. Assumes nothing.
+-- A loop that writes a list place by place, row by row or block by block: what the list holds after each turn. Every loop that writes lent
+-- samples or costs is one of these; none of the laws speaks of a sample's width. Assumes nothing.
 use mathlib.Core.Bool.{Bool, false, cond, _||_}
 use mathlib.Core.List.{List, [], _++_, append-nil}
 use mathlib.Core.Path.{_≡_, ap, subst, _∙_}
@@ -11,9 +11,9 @@ use borrow.Rule.Slice.PartMut.{putMid}
 use lib.Dec.{ltb, eqb}
 use lib.ListN.{length, getD, set, take, drop, length-append, length-drop, List·getD-append, drop-of-length-le}
 use lib.Seq.{take-all, getD-append-add, getD-take, getD-drop, length-take-le}
 use Rattle.sums.specs.Written.{written}
 use Rattle.sums.proofs.WrittenLaws.{length-written, written-at, is-written, written-none, written-ext, written-again, written-more, prefix-none, prefix-more}
-use Rattle.intra.specs.Fill.{inRun}
+use Rattle.sums.specs.Places.{inRun}
 
 -- ---- a part from place i on, lent and written at its first n places
 

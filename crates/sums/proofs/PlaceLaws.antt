@@ -7,8 +7,8 @@ use native.Mathlib.Nat.{zero-mul, add-mul}
 use native.Mathlib.Omega.{arith}
 use borrow.Author.Tests.{le-leb, lt-leb, lt-ltb, le-ltb, eq-eqb, ne-eqb, leb-true, ltb-true}
 use lib.Dec.{leb, ltb, eqb}
 use Rattle.sums.proofs.AnyLaws.{any-none, any-ext, any-or, any-cut, any-zero, any-more}
-use Rattle.intra.specs.Fill.{inRun, inRows}
+use Rattle.sums.specs.Places.{inRun, inRows}
 
 -- ---- runs
 
