@@ -17,6 +17,7 @@ use settings::Settings;
 
 pub mod card;
 mod code;
+pub mod frames;
 
 // The factor that Fast mode scales a frame by, 1 for none.
 #[no_mangle]

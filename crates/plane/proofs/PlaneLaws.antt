@@ -66,9 +66,9 @@ pub record Lies (p : Plane) (n : ℕ) : Type 0 where
   pub strides : p .width ≤ p .stride
   pub within : rowEnd p (p .height - 1) ≤ n
 
-side : (n : ℕ) → badSide n ≡ false → (0 < n) × (n ≤ maxSide)
+pub good-side : (n : ℕ) → badSide n ≡ false → (0 < n) × (n ≤ maxSide)
 unfolding badSide
-side n e =
+good-side n e =
     let t = or-no (eqb n 0) (ltb maxSide n) e in
     (pos-of-ne-zero (eqb-false n 0 (t .0)), ltb-false maxSide n (t .1))
 
@@ -77,7 +77,7 @@ unfolding badPlane
 shape p e =
     let t = or-no (badSide (p .width) || badSide (p .height)) (ltb (p .stride) (p .width)) e in
     let u = or-no (badSide (p .width)) (badSide (p .height)) (t .0) in
-    (side (p .width) (u .0), side (p .height) (u .1), ltb-false _ _ (t .1))
+    (good-side (p .width) (u .0), good-side (p .height) (u .1), ltb-false _ _ (t .1))
 
 pub lies : (p : Plane) (n : ℕ) → planeFault p n ≡ 0 → Lies p n
 unfolding planeFault pastSamples

@@ -15,6 +15,8 @@ use Rattle.plane.proofs.Plane.block_row.Kinds as block-row-kinds
 use Rattle.plane.proofs.Plane.block_row.Reads as block-row-reads
 use Rattle.plane.proofs.depth_fault.Kinds as depth-fault-kinds
 use Rattle.plane.proofs.depth_fault.Reads as depth-fault-reads
+use Rattle.plane.proofs.byte_fault.Kinds as byte-fault-kinds
+use Rattle.plane.proofs.byte_fault.Reads as byte-fault-reads
 use Rattle.plane.proofs.pair_fault.Kinds as pair-fault-kinds
 use Rattle.plane.proofs.pair_fault.Reads as pair-fault-reads
 
@@ -33,6 +35,9 @@ block-row-unique κs a r r′ e e′ p q = p ∙ sym q
 
 pub depth-fault-unique : OneOutcome 0 depth-fault-kinds.ps depth-fault-kinds.r ℕ (λ κs r e. r) depth-fault-reads.Post
 depth-fault-unique κs a r r′ e e′ p q = p ∙ sym q
+
+pub byte-fault-unique : OneOutcome 0 byte-fault-kinds.ps byte-fault-kinds.r ℕ (λ κs r e. r) byte-fault-reads.Post
+byte-fault-unique κs a r r′ e e′ p q = p ∙ sym q
 
 pub pair-fault-unique : OneOutcome 2 pair-fault-kinds.ps pair-fault-kinds.r ℕ (λ κs r e. r) pair-fault-reads.Post
 pair-fault-unique κs a r r′ e e′ p q = p ∙ sym q

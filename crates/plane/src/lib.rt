@@ -117,7 +117,7 @@ pub fn depth_fault(depth: u64) -> u32
 }
 
 // Refusal 5 of a depth that samples of a byte do not have, or 0.
-fn byte_fault(depth: u64) -> u32
+pub fn byte_fault(depth: u64) -> u32
     ensures { λ r. ⌜ r ≡ byteFault depth ⌝ }
 {
     if depth == BYTE_DEPTH { 0 } else { 5 }

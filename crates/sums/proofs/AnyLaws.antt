@@ -1,9 +1,11 @@
 -- The laws of `anyBelow`. Assumes nothing.
 use mathlib.Core.Bool.{Bool, true, false, _||_}
 use mathlib.Core.Path.{_≡_, refl, sym, ap, _∙_}
-use Prim.Native.Nat.{ℕ, zero, suc, _+_}
+use Prim.Native.Nat.{ℕ, zero, suc, _+_, _<_}
+use native.Mathlib.Decide.{decLt}
 use native.Mathlib.Nat.{add-zero, add-suc}
 use native.Mathlib.Numerals.{add-one}
+use native.Mathlib.Omega.{arith}
 use Rattle.sums.specs.Any.{anyBelow}
 
 or-assoc : (a b c : Bool) → (a || b) || c ≡ a || (b || c)
@@ -53,3 +55,17 @@ unfolding anyBelow
 any-cut m zero f = rw add-zero (sym (or-false-right (anyBelow m f)))
 any-cut m (suc n) f =
     rw add-suc (ap (λ (b : Bool). b || f (m + n)) (any-cut m n f) ∙ or-assoc (anyBelow m f) (anyBelow n (λ (i : ℕ). f (m + i))) (f (m + n)))
+
+-- one that holds is enough
+or-true-right : (a : Bool) → a || true ≡ true
+or-true-right true = refl
+or-true-right false = refl
+
+pub any-some : (n i : ℕ) (f : ℕ → Bool) → i < n → f i ≡ true → anyBelow n f ≡ true
+unfolding anyBelow
+any-some zero i f h e = absurd (omega arith)
+any-some (suc n) i f h e = go (λ l. any-some n i f l e) (decLt i n)
+  where
+    go : (i < n → anyBelow n f ≡ true) → Dec (i < n) → anyBelow n f || f n ≡ true
+    go before (yes l) = rw (before l)
+    go before (no m) = let last : i ≡ n = omega arith in rw (ap f (sym last) ∙ e) (or-true-right (anyBelow n f))

@@ -1,4 +1,5 @@
 pub mod SumLaws
+pub mod MeanLaws
 pub mod TableLaws
 pub mod AnyLaws
 pub mod WrittenLaws

@@ -7,7 +7,7 @@ use native.Mathlib.Nat.{zero-mul, add-mul}
 use native.Mathlib.Omega.{arith}
 use borrow.Author.Tests.{le-leb, lt-leb, lt-ltb, le-ltb, eq-eqb, ne-eqb, leb-true, ltb-true}
 use lib.Dec.{leb, ltb, eqb}
-use Rattle.sums.proofs.AnyLaws.{any-none, any-ext, any-or, any-cut, any-zero, any-more}
+use Rattle.sums.proofs.AnyLaws.{any-none, any-some, any-ext, any-or, any-cut, any-zero, any-more}
 use Rattle.sums.specs.Places.{inRun, inRows}
 
 -- ---- runs
@@ -77,6 +77,13 @@ module _ (start stride : ℕ) where
   pub rows-next : (m n k : ℕ) → inRows start stride m n k || inRun (start + m * stride) n k ≡ inRows start stride (m + 1) n k
   unfolding inRows
   rows-next m n k = sym (any-more m (λ (j : ℕ). inRun (start + j * stride) n k))
+
+  -- place x of row j is in them
+  pub rows-hold : (m n j x : ℕ) → j < m → x < n → inRows start stride m n (start + j * stride + x) ≡ true
+  unfolding inRows
+  rows-hold m n j x h i =
+      let k = start + j * stride + x in
+      any-some m j (λ (l : ℕ). inRun (start + l * stride) n k) h (rw (le-leb (start + j * stride) k (omega arith), lt-ltb k (start + j * stride + n) (omega arith)))
 
   -- rows of no places, and of n places more: a block beside others
   pub blocks-none : (rows k : ℕ) → inRows start stride rows 0 k ≡ false

@@ -21,6 +21,12 @@ unfolding table
 table-ext zero g h e = refl
 table-ext (suc n) g h e = rw (table-ext n g h e, e n)
 
+-- also where they are equal below the list's length alone
+pub table-below : {A : Type 0} (n : ℕ) (g h : ℕ → A) → ((k : ℕ) → k < n → g k ≡ h k) → table n g ≡ table n h
+unfolding table
+table-below zero g h e = refl
+table-below (suc n) g h e = rw (table-below n g h (λ k k<. e k (omega arith)), e n (omega arith))
+
 module _ {A : Type 0} (d : A) where
   pub table-at : (n : ℕ) (g : ℕ → A) (k : ℕ) → k < n → getD (table n g) k d ≡ g k
   unfolding table

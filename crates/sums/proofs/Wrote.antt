@@ -109,3 +109,7 @@ front-none g s = wrote (λ (k : ℕ). ltb k 0) g s s (prefix-none g s)
 
 pub front-more : {g : ℕ → ℕ} {s l : List ℕ} {i : ℕ} → Wrote (λ (k : ℕ). ltb k i) g s l → (v : ℕ) → i < length s → v ≡ g i → Wrote (λ (k : ℕ). ltb k (i + 1)) g s (set l i v)
 front-more {g} {s} {l} {i} w v h e = wrote (λ (k : ℕ). ltb k (i + 1)) g s (set l i v) (rw (w .is, e) (prefix-more i g s h))
+
+-- what is not written yet is as it was
+pub front-old : {g : ℕ → ℕ} {s l : List ℕ} {i : ℕ} → Wrote (λ (k : ℕ). ltb k i) g s l → (k : ℕ) → i ≤ k → k < length s → getD l k 0 ≡ getD s k 0
+front-old {g} {s} {l} {i} w k h k< = rw (w .is) (written-at (λ (k : ℕ). ltb k i) g s k k< ∙ rw (le-ltb k i h))

@@ -1,0 +1,4 @@
+pub mod ReduceLaws
+pub mod RowLaws
+pub mod Promises
+pub mod Unique

@@ -1,0 +1,178 @@
+-- The factors, and the sums of squares by pairs of columns, over the largest sample k and any factor. Assumes nothing.
+use mathlib.Core.Bool.{Bool, true, false, not, _||_, true≢false}
+use mathlib.Core.List.{List}
+use mathlib.Core.Path.{_≡_, refl, sym, ap, ap₂, subst, _∙_}
+use Prim.Native.Nat.{ℕ, _+_, _-_, _*_, _/_, _≤_, _<_}
+use native.Mathlib.Nat.{mul-assoc, mul-left-comm, mul-le-mul, mul-le-mul-right, mul-pos, add-mul, zero-mul}
+use native.Mathlib.Omega.{arith}
+use borrow.Author.Tests.{eqb-true, ltb-true}
+use lib.Dec.{eqb, ltb}
+use lib.ListN.{length, getD, take, drop}
+use Rattle.answer.proofs.Laws.{or-none, passed}
+use Rattle.plane.specs.Needs.{rowFrom, squareFrom}
+use Rattle.plane.specs.Planes.{planeFault}
+use Rattle.plane.specs.declared.Plane.{Plane}
+use Rattle.plane.proofs.SquareLaws.{part-at, square-most}
+use Rattle.sums.specs.Means.{meanOf}
+use Rattle.sums.specs.Sums.{sumBelow}
+use Rattle.sums.specs.Table.{table}
+use Rattle.sums.specs.Written.{written}
+use Rattle.sums.proofs.SumLaws.{sum-ext, sum-most, sum-more, sum-none, sum-swap, sum-pairs}
+use Rattle.sums.proofs.TableLaws.{table-at}
+use Rattle.sums.proofs.WrittenLaws.{written-value}
+use Rattle.reduce.specs.Reduce.{badFactor, notReduced, reduceFault}
+use Rattle.reduce.specs.Needs.{sumCount, pairAt, pairFrom, pairsFrom, groupOf, meanFrom, Half}
+
+-- ---- factors
+
+-- what holds of the six holds of a factor that is not refused
+pub six : (P : ℕ → Type 0) → P 1 → P 2 → P 4 → P 8 → P 16 → P 32 → (f : ℕ) → badFactor f ≡ false → P f
+unfolding badFactor
+six P p1 p2 p4 p8 p16 p32 f e =
+    go (eqb f 1) (eqb f 2) (eqb f 4) (eqb f 8) (eqb f 16) (eqb f 32) (λ t. back 1 p1 t) (λ t. back 2 p2 t) (λ t. back 4 p4 t) (λ t. back 8 p8 t) (λ t. back 16 p16 t)
+    (λ t. back 32 p32 t) e
+  where
+    back : (n : ℕ) → P n → eqb f n ≡ true → P f
+    back n p t = subst P (sym (eqb-true f n t)) p
+
+    go : (a b c d g h : Bool) → (a ≡ true → P f) → (b ≡ true → P f) → (c ≡ true → P f) → (d ≡ true → P f) → (g ≡ true → P f) → (h ≡ true → P f)
+        → not (a || b || c || d || g || h) ≡ false → P f
+    go true b c d g h fa fb fc fd fg fh q = fa refl
+    go false true c d g h fa fb fc fd fg fh q = fb refl
+    go false false true d g h fa fb fc fd fg fh q = fc refl
+    go false false false true g h fa fb fc fd fg fh q = fd refl
+    go false false false false true h fa fb fc fd fg fh q = fg refl
+    go false false false false false true fa fb fc fd fg fh q = fh refl
+    go false false false false false false fa fb fc fd fg fh q = absurd (true≢false q)
+
+-- none is 0, nor above 32
+pub factor-small : (f : ℕ) → badFactor f ≡ false → (0 < f) × (f ≤ 32)
+factor-small =
+    six (λ (f : ℕ). (0 < f) × (f ≤ 32)) (omega arith, omega arith) (omega arith, omega arith) (omega arith, omega arith) (omega arith, omega arith)
+    (omega arith, omega arith) (omega arith, omega arith)
+
+-- one above 1 is twice its half, of which a chunk's sums are whole squares
+pub factor-half : (f : ℕ) → badFactor f ≡ false → (f ≡ 1 → ⊥) → (2 * (f / 2) ≡ f) × Half (f / 2)
+factor-half =
+    six (λ (f : ℕ). (f ≡ 1 → ⊥) → (2 * (f / 2) ≡ f) × Half (f / 2)) (λ h. absurd (h refl)) (λ _. fits 1 (omega arith) (omega arith) refl)
+    (λ _. fits 2 (omega arith) (omega arith) refl) (λ _. fits 4 (omega arith) (omega arith) refl) (λ _. fits 8 (omega arith) (omega arith) refl)
+    (λ _. fits 16 (omega arith) (omega arith) refl)
+  where
+    fits : (h : ℕ) → 0 < h → h ≤ 16 → sumCount / h * h ≡ sumCount → (2 * (2 * h / 2) ≡ 2 * h) × Half (2 * h / 2)
+    fits h a b e =
+        let same : 2 * h / 2 ≡ h = omega arith in
+        (omega arith, subst Half (sym same) (record { some = a; most = b; whole = e }))
+
+-- ---- what a reduction that is not refused keeps to
+
+pub fine : (depth f : ℕ) (p : Plane) (s : List ℕ) (q : Plane) (r : List ℕ) → reduceFault depth f p s q r ≡ 0
+    → (badFactor f ≡ false) × ((planeFault p (length s) ≡ 0) × ((planeFault q (length r) ≡ 0) × (notReduced f p q ≡ false)))
+unfolding reduceFault
+fine depth f p s q r e =
+    let t6 = or-none _ _ e in
+    let t5 = or-none _ _ (t6 .1) in
+    let t1 = or-none _ _ (t5 .1) in
+    let first = or-none _ _ (t1 .1) in
+    let second = or-none _ _ (first .1) in
+    (passed 5 _ (t6 .0), (first .0, (second .0, passed 2 _ (second .1))))
+
+-- ---- pairs
+
+-- pair k of a part that starts at a place
+pub pair-part : (s : List ℕ) (at k : ℕ) → at + (2 * k + 1) < length s → pairAt (take (length s - at) (drop at s)) k ≡ pairFrom s at k
+pair-part s at k h = rw (part-at s at (2 * k) (omega arith), part-at s at (2 * k + 1) h)
+
+-- the same pair of the whole list
+pub pair-shift : (s : List ℕ) (at from k : ℕ) → from ≡ 2 * at → from + (2 * k + 1) < length s → pairAt (take (length s - from) (drop from s)) k ≡ pairAt s (at + k)
+pair-shift s at from k e h =
+    let left : from + 2 * k ≡ 2 * (at + k) = omega arith in
+    let right : from + (2 * k + 1) ≡ 2 * (at + k) + 1 = omega arith in
+    pair-part s from k h ∙ rw (left, right)
+
+module _ (k : ℕ) (s : List ℕ) (l : (i : ℕ) → getD s i 0 ≤ k) where
+  pub pair-most : (i : ℕ) → pairAt s i ≤ 2 * k
+  pair-most i = let a = l (2 * i) in let b = l (2 * i + 1) in omega arith
+
+  pub pairs-most : (start stride n i : ℕ) → pairsFrom s start stride n i ≤ n * (2 * k)
+  pairs-most start stride n i =
+      sum-most (2 * k) n (λ (j : ℕ). pairFrom s (start + j * stride) i)
+      (λ j _. let a = l (start + j * stride + 2 * i) in let b = l (start + j * stride + (2 * i + 1)) in omega arith)
+
+-- two rows more
+pub pairs-next : (s : List ℕ) (start stride j k : ℕ)
+    → pairsFrom s start stride (2 * j) k + (pairFrom s (start + 2 * j * stride) k + pairFrom s (start + (2 * j + 1) * stride) k) ≡ pairsFrom s start stride (2 * (j + 1)) k
+pairs-next s start stride j k =
+    let one = sum-more (2 * j) (λ (i : ℕ). pairFrom s (start + i * stride) k) in
+    let two = sum-more (2 * j + 1) (λ (i : ℕ). pairFrom s (start + i * stride) k) in
+    let ends : 2 * (j + 1) ≡ 2 * j + 1 + 1 = omega arith in
+    rw ends (omega arith)
+
+-- ---- squares by pairs of columns
+
+-- a row of a square: h pairs are 2 * h samples
+row-by-pairs : (s : List ℕ) (start stride h x j : ℕ) → sumBelow h (λ (i : ℕ). pairFrom s (start + j * stride) (x * h + i)) ≡ rowFrom (2 * h) s (start + x * (2 * h)) stride j
+row-by-pairs s start stride h x j =
+    sum-ext h (λ (i : ℕ). pairFrom s (start + j * stride) (x * h + i)) (λ (i : ℕ). g (2 * i) + g (2 * i + 1))
+    (λ i _.
+    let wide : x * (2 * h) ≡ 2 * (x * h) = mul-left-comm x 2 h in
+    let left : start + j * stride + 2 * (x * h + i) ≡ start + x * (2 * h) + j * stride + 2 * i = omega arith in
+    let right : start + j * stride + (2 * (x * h + i) + 1) ≡ start + x * (2 * h) + j * stride + (2 * i + 1) = omega arith in
+    rw (left, right))
+    ∙ sum-pairs h g
+  where
+    g : ℕ → ℕ
+    g i = getD s (start + x * (2 * h) + j * stride + i) 0
+
+-- group x of the sums of 2 * h rows is the sum of square x
+pub square-by-pairs : (s l : List ℕ) (start stride h x : ℕ) → l ≡ table sumCount (pairsFrom s start stride (2 * h)) → x * h + h ≤ sumCount
+    → groupOf l h x ≡ squareFrom (2 * h) s (start + x * (2 * h)) stride
+square-by-pairs s l start stride h x e room =
+    sum-ext h (λ (i : ℕ). getD l (x * h + i) 0) (λ (i : ℕ). pairsFrom s start stride (2 * h) (x * h + i))
+    (λ i i<. rw e (table-at 0 sumCount (pairsFrom s start stride (2 * h)) (x * h + i) (omega arith)))
+    ∙ sum-swap h (2 * h) (λ (i j : ℕ). pairFrom s (start + j * stride) (x * h + i))
+    ∙ sum-ext (2 * h) (λ (j : ℕ). sumBelow h (λ (i : ℕ). pairFrom s (start + j * stride) (x * h + i))) (rowFrom (2 * h) s (start + x * (2 * h)) stride)
+    (λ j _. row-by-pairs s start stride h x j)
+
+-- how many samples a square has, by its half side
+pub four-halves : (h : ℕ) → 4 * h * h ≡ 2 * h * (2 * h)
+four-halves h = let wide : 2 * h * (2 * h) ≡ 2 * (2 * h * h) = mul-left-comm (2 * h) 2 h in let deep = mul-assoc 2 h h in let all = mul-assoc 4 h h in omega arith
+
+-- the square of side 1 is its sample
+pub mean-one : (s : List ℕ) (start stride x : ℕ) → meanFrom 1 s start stride x ≡ getD s (start + x) 0
+mean-one s start stride x =
+    let place : start + x * 1 + 0 * stride + 0 ≡ start + x = omega (arith, zero-mul stride) in
+    let row : rowFrom 1 s (start + x * 1) stride 0 ≡ getD s (start + x) 0 =
+    sum-more 0 (λ (i : ℕ). getD s (start + x * 1 + 0 * stride + i) 0) ∙ omega (arith, sum-none (λ (i : ℕ). getD s (start + x * 1 + 0 * stride + i) 0), ap (λ (i : ℕ). getD s i 0) place) in
+    let sum : squareFrom 1 s (start + x * 1) stride ≡ getD s (start + x) 0 =
+    sum-more 0 (rowFrom 1 s (start + x * 1) stride) ∙ omega (arith, sum-none (rowFrom 1 s (start + x * 1) stride)) in
+    rw sum (omega arith)
+
+-- ---- the means of a chunk
+
+-- from the chunk's sums l: the means of groups of n sums, of so many samples each, are those of the squares
+module _ (k h : ℕ) (half : Half h) (s l : List ℕ) (most : (i : ℕ) → getD s i 0 ≤ k) (start stride : ℕ) (e : l ≡ table sumCount (pairsFrom s start stride (2 * h)))
+    (count n samples : ℕ) (whole : count ≡ sumCount / h) (groups : n ≡ h) (all : samples ≡ 4 * h * h) where
+  group-in : (x : ℕ) → x < count → x * h + h ≤ sumCount
+  group-in x x< =
+      let next : x + 1 ≤ sumCount / h = omega arith in
+      omega (arith, half .whole, mul-le-mul-right h next, add-mul x 1 h)
+
+  group-is : (x : ℕ) → x < count → groupOf l n x ≡ squareFrom (2 * h) s (start + x * (2 * h)) stride
+  group-is x x< = rw groups (square-by-pairs s l start stride h x e (group-in x x<))
+
+  pub group-most : (x : ℕ) → x < count → groupOf l n x ≤ samples * k
+  group-most x x< =
+      rw (group-is x x<, all, four-halves h, mul-assoc (2 * h) (2 * h) k) (square-most k (2 * h) s most (start + x * (2 * h)) stride)
+
+  -- 1,024 samples at most, and 1 at least
+  pub samples-some : 0 < samples
+  samples-some = rw (all, mul-assoc) (let some = mul-pos (half .some) (half .some) in omega arith)
+
+  pub samples-most : samples ≤ 1024
+  samples-most = rw (all, mul-assoc) (let few = mul-le-mul (half .most) (half .most) in omega arith)
+
+  pub chunk-means : (out : List ℕ) → written (λ (x : ℕ). ltb x count) (λ (x : ℕ). meanOf samples (groupOf l n x)) out ≡ written (λ (x : ℕ). ltb x (sumCount / h)) (meanFrom (2 * h) s start stride) out
+  chunk-means out =
+      written-value (λ (x : ℕ). ltb x count) (λ (x : ℕ). meanOf samples (groupOf l n x)) (meanFrom (2 * h) s start stride) out
+      (λ x t. ap₂ meanOf (all ∙ four-halves h) (group-is x (ltb-true x count t)))
+      ∙ ap (λ (m : ℕ). written (λ (x : ℕ). ltb x m) (meanFrom (2 * h) s start stride) out) whole
