@@ -166,7 +166,7 @@ function is_return(i) { return code[i] ~ (machine == "x86_64" ? "^(repz? )?ret" 
 function is_last(i) { return is_return(i) || code[i] ~ (machine == "x86_64" ? "^((notrack )?jmp|ud2|hlt)" : "^(b |udf|brk)") }
 
 # A call or a jump whose target stands in a register or in memory.
-function is_hidden(i) { return code[i] ~ (machine == "x86_64" ? "^(notrack )?(call|j[a-z]+) \\*" : "^(blr|br)[a-z]* ") }
+function is_hidden(i) { return code[i] ~ (machine == "x86_64" ? "^(notrack )?(call|j[a-z]+) \\*" : "^(blr|br)(a[ab]z?)? ") }
 
 # The function that it calls or jumps to, or "".
 function callee(i) {
