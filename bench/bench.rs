@@ -68,16 +68,27 @@ fn frame(samples: &[u8], width: usize, height: usize) -> Arc<Frame<u8>> {
     Arc::new(Frame::of(Plane::over(samples.to_vec(), shape), Fed::default()))
 }
 
+/// How often a plane of this size is measured in one round.
+fn calls(width: usize, height: usize) -> u32 {
+    (10_000_000 / (width * height)).max(1) as u32
+}
+
 /// What a plain read of a plane takes: its words, added up.
 fn read(list: &[u8]) -> u64 {
     list.chunks_exact(8).fold(0, |s, c| s.wrapping_add(u64::from_ne_bytes(c.try_into().unwrap())))
+}
+
+/// A rate in bytes, beside that of a plain read of the same.
+fn beside_read(bytes: usize, ours: f64, plain: f64) -> String {
+    let (rate, most) = (bytes as f64 / ours, bytes as f64 / plain);
+    format!("{rate:.1} GB/s; a plain read {most:.1} GB/s; {:.2} of it", rate / most)
 }
 
 /// Two planes of one size, as the crate has them and as the library is lent them.
 struct Pair {
     size: String,
     calls: u32,
-    bytes: f64,
+    bytes: usize,
     lists: [Vec<u8>; 2],
     frames: [Arc<Frame<u8>>; 2],
     width: usize,
@@ -88,9 +99,8 @@ impl Pair {
     fn new(width: usize, height: usize) -> Pair {
         let lists = [samples(width * height, 1), samples(width * height, 2)];
         let frames = [frame(&lists[0], width, height), frame(&lists[1], width, height)];
-        let calls = (10_000_000 / (width * height)).max(1) as u32;
-        let (size, bytes) = (format!("{width}×{height}"), (2 * width * height) as f64);
-        Pair { size, calls, bytes, lists, frames, width, height }
+        let (size, bytes) = (format!("{width}×{height}"), 2 * width * height);
+        Pair { size, calls: calls(width, height), bytes, lists, frames, width, height }
     }
 
     fn lent(&self, at: usize) -> Lent<'_> {
@@ -108,9 +118,7 @@ impl Pair {
                 &mut || seen(read(black_box(&self.lists[0])) ^ read(black_box(&self.lists[1]))),
             ],
         );
-        let (rate, most) = (self.bytes / ours, self.bytes / plain);
-        let more = format!("{rate:.1} GB/s; a plain read {most:.1} GB/s; {:.2} of it", rate / most);
-        line("plane difference", &self.size, theirs, ours, &more);
+        line("plane difference", &self.size, theirs, ours, &beside_read(self.bytes, ours, plain));
     }
 
     fn importance(&self) {
@@ -123,7 +131,7 @@ impl Pair {
                 &mut || seen(importance(black_box(&one), black_box(&two))),
             ],
         );
-        line("importance", &self.size, theirs, ours, &format!("{:.1} GB/s", self.bytes / ours));
+        line("importance", &self.size, theirs, ours, &format!("{:.1} GB/s", self.bytes as f64 / ours));
     }
 
     fn intra(&self) {
@@ -142,6 +150,29 @@ impl Pair {
         );
         line("intra costs", &self.size, theirs, ours, &format!("{:.0} ns a block", ours / count as f64));
     }
+}
+
+/// A plane reduced by the factor that Fast mode has for its sides. The text of the crate's reduction is missing: it is the
+/// oracle's plain Rust that runs beside the library here.
+fn reduction(width: usize, height: usize) {
+    let factor = Scenes::door_scale(width, height, scenes::SceneDetectionSpeed::Fast);
+    let (list, count) = (samples(width * height, 1), (width / factor) * (height / factor));
+    let (from, one) = (frame(&list, width, height), Lent { samples: &list, width, height });
+    let mut to = frame(&vec![0; count], width / factor, height / factor).y_plane.clone();
+    let mut reduced = vec![0; count];
+    Scenes::door_reduce(&from.y_plane, factor, &mut to);
+    assert_eq!(reduce(&one, factor, &mut reduced), 0);
+    assert_eq!(to.samples, reduced);
+    let [theirs, ours, plain] = best(
+        calls(width, height),
+        [
+            &mut || Scenes::door_reduce(black_box(&from.y_plane), factor, black_box(&mut to)),
+            &mut || seen(reduce(black_box(&one), factor, black_box(&mut reduced))),
+            &mut || seen(read(black_box(&list))),
+        ],
+    );
+    let more = beside_read(list.len(), ours, plain) + "; beside the oracle's Rust";
+    line("reduction", &format!("{width}×{height} by {factor}"), theirs, ours, &more);
 }
 
 /// A block that begins a line of the cache, so that the blocks of all sides lie alike.
@@ -230,6 +261,9 @@ fn main() {
         pair.difference();
         pair.importance();
         pair.intra();
+    }
+    for (width, height) in [(640, 480), (1280, 720), (1920, 1080), (2560, 1440), (3840, 2160)] {
+        reduction(width, height);
     }
     transform();
     #[cfg(before)]

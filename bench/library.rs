@@ -14,6 +14,8 @@ pub struct Lent<'a> {
 
 #[rustfmt::skip]
 unsafe extern "C" {
+    fn brine_reduce(depth: u32, factor: usize, samples: *const u8, samples_len: usize, w: usize, h: usize, s: usize, o: usize,
+        reduced: *mut u8, reduced_len: usize, w2: usize, h2: usize, s2: usize, o2: usize) -> i64;
     fn brine_plane_difference(depth: u32, a: *const u8, a_len: usize, w: usize, h: usize, s: usize, o: usize,
         b: *const u8, b_len: usize, w2: usize, h2: usize, s2: usize, o2: usize) -> i64;
     fn brine_importance(depth: u32, a: *const u8, a_len: usize, w: usize, h: usize, s: usize, o: usize,
@@ -33,8 +35,17 @@ unsafe extern "C" {
         backward: c_double, forward: c_double, threshold: c_double, cut: u32) -> i64;
 }
 
-pub fn difference(a: &Lent, b: &Lent) -> i64 {
+pub fn reduce(a: &Lent, factor: usize, reduced: &mut [u8]) -> i64 {
+    let (w, h) = (a.width / factor, a.height / factor);
     // SAFETY: each pointer is lent with its own length.
+    unsafe {
+        brine_reduce(8, factor, a.samples.as_ptr(), a.samples.len(), a.width, a.height, a.width, 0, reduced.as_mut_ptr(),
+            reduced.len(), w, h, w, 0)
+    }
+}
+
+pub fn difference(a: &Lent, b: &Lent) -> i64 {
+    // SAFETY: as above.
     unsafe {
         brine_plane_difference(8, a.samples.as_ptr(), a.samples.len(), a.width, a.height, a.width, 0, b.samples.as_ptr(),
             b.samples.len(), b.width, b.height, b.width, 0)

@@ -8,12 +8,13 @@
  * function's comment lists its refusals in the order in which they are tested; the first that applies is given. The refusals,
  * in short (docs/RULES.md has them in full):
  *
- *    1  a side of a plane is 0 or above 8,192, or its stride is below its width
+ *    1  a side of a plane is 0 or above 8,192, or its stride is below its width; a side is below the factor by which it is to
+ *       be divided, so that the reduced side would be 0
  *    2  a plane needs more samples than were lent; a list or a block has another length than it must have
- *    3  two planes differ in width or height
+ *    3  two planes differ in width or height; a plane to reduce into has other sides than the reduced ones
  *    4  the cost list is shorter than the number of blocks
  *    5  the depth is not 8
- *    6  a side of the resolution is outside 1 to 8,192, or the mode is not 0, 1 or 2
+ *    6  a side of the resolution is outside 1 to 8,192, or the mode is not 0, 1 or 2, or the factor is none of the six
  *    7  the frame number is 0, or 2^32 or more, or below the previous keyframe's, or not one above the last call's
  *    8  a set has more than BRINE_SET_LIMIT frames, or more than the last call's
  *    9  a set of one frame with a lookahead below 5, an offset of 0 and a mode that scores
@@ -54,10 +55,20 @@ extern "C" {
 /* ---- measures ---- */
 
 /* The factor by which Fast mode divides a frame's sides, width and height, before frames are compared: 1 (none), 2, 4, 8, 16
- * or 32. In the other modes it is 1. The reduced sides are the sides divided by it, rounded down. The caller reduces; README.md
- * shows how: each square of factor * factor samples becomes its mean, rounded to the nearest, a half up.
+ * or 32. In the other modes it is 1. The reduced sides are the sides divided by it, rounded down. brine_reduce reduces a frame.
  * Refusals: 6. */
 int64_t brine_scale_factor(size_t width, size_t height, uint32_t mode);
+
+/* Reduces a plane by `factor`, one of the six above, into a lent plane, `reduced` with the numbers that end in 2, which must
+ * have the reduced sides: width / factor and height / factor, rounded down. There each sample becomes the mean of its square
+ * of factor * factor samples, rounded to the nearest, a half up; the square of sample (x, y) begins with the plane's sample
+ * (x * factor, y * factor). Every other lent sample stays. Samples right of and below the last whole square bear on nothing.
+ * With a factor of 1 this is a copy. Returns 0.
+ * Refusals: 6, where the factor is none of the six; 5; 1 of the plane, also where a side is below the factor, and 2 of it; 1
+ * and 2 of the lent plane; 3, where its sides are not the reduced ones. Then the lent plane is as it was. */
+int64_t brine_reduce(uint32_t depth, size_t factor,
+    const uint8_t *samples, size_t samples_len, size_t width, size_t height, size_t stride, size_t origin,
+    uint8_t *reduced, size_t reduced_len, size_t width2, size_t height2, size_t stride2, size_t origin2);
 
 /* The sum of absolute differences of two planes over their visible samples.
  * Refusals: 5; 1 and 2 of the first plane; 1 and 2 of the second; 3. */

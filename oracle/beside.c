@@ -10,9 +10,10 @@
 #include <string.h>
 #include <unistd.h>
 
-enum measure { M_SCALE, M_DIFFERENCE, M_TOTAL, M_DELTA, M_IMPORTANCE, M_INTRA, M_THRESHOLD, M_4X4, M_8X8, M_SATD, MEASURES };
-static const char *const measures[MEASURES] = {"scale factor", "plane difference", "importance total", "delta", "importance",
-    "intra costs", "threshold", "transform of 4x4", "transform of 8x8", "SATD"};
+enum measure { M_SCALE, M_REDUCTION, M_DIFFERENCE, M_TOTAL, M_DELTA, M_IMPORTANCE, M_INTRA, M_THRESHOLD, M_4X4, M_8X8, M_SATD,
+    MEASURES };
+static const char *const measures[MEASURES] = {"scale factor", "reduction", "plane difference", "importance total", "delta",
+    "importance", "intra costs", "threshold", "transform of 4x4", "transform of 8x8", "SATD"};
 static uint64_t measured[MEASURES];
 
 /* One measure was compared. */
@@ -45,6 +46,17 @@ static struct plane plane(enum slot slot)
 }
 
 #define AS_LENT(p) (p).lent, (p).len, (p).width, (p).height, (p).stride, (p).origin
+
+static void reduction(void)
+{
+    uint32_t depth = (uint32_t)word();
+    size_t factor = word(), same_len;
+    struct plane a = plane(FIRST), reduced = plane(SECOND);
+    int64_t due = answer();
+    const void *after = bytes(&same_len);
+    int64_t got = brine_reduce(depth, factor, AS_LENT(a), AS_LENT(reduced));
+    measure(M_REDUCTION, holds(FIRST, a.samples) && holds(SECOND, after), due, got);
+}
 
 static void planes(void)
 {
@@ -141,6 +153,7 @@ int main(void)
         lend_place(record & 1, record / 2 % SHIFTS);
         switch (kind) {
         case SCALE: scale(); break;
+        case REDUCE: reduction(); break;
         case PLANES: planes(); break;
         case INTRA: intra(); break;
         case THRESHOLDS: threshold(); break;

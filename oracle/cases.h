@@ -4,7 +4,7 @@
 #include <stddef.h>
 #include <stdint.h>
 
-enum kind { END, SCALE, PLANES, INTRA, THRESHOLDS, HADAMARD, SATD, FRESH, STATE, STEP, FILM, LOG, APPEND };
+enum kind { END, SCALE, PLANES, INTRA, THRESHOLDS, HADAMARD, SATD, FRESH, STATE, STEP, FILM, LOG, APPEND, REDUCE };
 
 /* The number of the record at hand, and what is left of its words. */
 extern uint64_t record;

@@ -18,6 +18,23 @@ static void spoil(const void *list, size_t bytes)
     if (bytes != 0) ((unsigned char *)list)[bytes - 1] ^= 1;
 }
 
+#define REDUCED                                                                                                        \
+    uint32_t depth, size_t factor, const uint8_t *a, size_t a_len, size_t width, size_t height, size_t stride,         \
+        size_t origin, uint8_t *b, size_t b_len, size_t width2, size_t height2, size_t stride2, size_t origin2
+
+int64_t __real_brine_reduce(REDUCED);
+int64_t __wrap_brine_reduce(REDUCED)
+{
+    int64_t r = __real_brine_reduce(depth, factor, a, a_len, width, height, stride, origin, b, b_len, width2, height2, stride2, origin2);
+    const size_t end = r < 0 ? b_len : origin2 + (height2 - 1) * stride2 + width2;
+    if (does("reduce-writes-the-plane")) spoil(a, a_len);
+    if (does("reduced-beside-a-row") && r >= 0 && height2 > 1 && stride2 > width2) b[origin2 + width2] ^= 1;
+    if (does("reduced-before-the-origin") && r >= 0 && origin2 != 0) b[origin2 - 1] ^= 1;
+    if (does("reduced-behind-the-rows") && end < b_len) b[end] ^= 1;
+    if (does("reduced-when-refused") && r < 0) spoil(b, b_len);
+    return r;
+}
+
 #define PLANES                                                                                                         \
     uint32_t depth, const uint8_t *a, size_t a_len, size_t width, size_t height, size_t stride, size_t origin,         \
         const uint8_t *b, size_t b_len, size_t width2, size_t height2, size_t stride2, size_t origin2

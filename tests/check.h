@@ -13,6 +13,8 @@ struct test {
 
 /* Lists of tests, each closed by a test without a name. */
 extern const struct test plane_tests[];
+extern const struct test reduce_tests[];
+extern const struct test reduce_refused_tests[];
 extern const struct test intra_tests[];
 extern const struct test transform_tests[];
 extern const struct test nan_tests[];

@@ -2,6 +2,8 @@
      film y4m WIDTH HEIGHT COLOUR LUMA...   a Y4M film, one frame for each LUMA; COLOUR - leaves its word out
      film header WORDS LINE LUMA...         the same with these words behind YUV4MPEG2, which name sides and colour, and this line before
                                             each frame; luma has a grain, and chroma is another in each byte, frame and header
+     film swell WIDTH HEIGHT FACTOR LUMA... a Y4M film without chroma whose luma is rough. Its frames are drawn WIDTH × HEIGHT, and each
+                                            square of FACTOR × FACTOR samples becomes its mean, rounded to the nearest, a half up
      film pgm WIDTH HEIGHT LARGEST LUMA     a binary PGM picture
      film log NUMBER...                     a log, one record for each NUMBER, with a score of zeros and no cut
    LUMA is a number, or two as 16/17 for columns by turns. */
@@ -18,6 +20,31 @@ static void put_luma(const char *luma, size_t width, size_t height, size_t grain
     for (size_t y = 0; y < height; y++)
         for (size_t x = 0; x < width; x++)
             putchar((x % 2 == 0 ? even : odd) + (grain == 0 ? 0 : (int)((5 * x + 3 * y + grain) % 8)));
+}
+
+/* Rings about the corner, closer and closer, and fine grain: the means of squares of every size differ from each other. */
+static int rough(int luma, size_t x, size_t y, size_t frame)
+{
+    const size_t rings = (x * x + 3 * y * y + 40 * frame * x) >> 9, grain = (7 * x + 11 * y * y + 5 * frame) % 13;
+    return luma + (int)(rings % 90 + grain);
+}
+
+/* The library has no part in this reduction. */
+static void put_swell(size_t width, size_t height, size_t factor, int frames, char **luma)
+{
+    const size_t number = factor * factor;
+    printf("YUV4MPEG2 W%zu H%zu F1:600 Cmono\n", width / factor, height / factor);
+    for (int i = 0; i < frames; i++) {
+        const int base = atoi(luma[i]);
+        printf("FRAME\n");
+        for (size_t y = 0; y + factor <= height; y += factor)
+            for (size_t x = 0; x + factor <= width; x += factor) {
+                size_t sum = 0;
+                for (size_t k = 0; k < number; k++)
+                    sum += (size_t)rough(base, x + k % factor, y + k / factor, (size_t)i);
+                putchar((int)((2 * sum + number) / (2 * number)));
+            }
+    }
 }
 
 static size_t chroma_bytes(const char *colour, size_t width, size_t height)
@@ -100,6 +127,8 @@ int main(int count, char **words)
     const size_t width = strtoul(words[2], NULL, 10), height = strtoul(words[3], NULL, 10);
     if (strcmp(words[1], "y4m") == 0) {
         put_film(width, height, words[4], count - 5, words + 5);
+    } else if (strcmp(words[1], "swell") == 0) {
+        put_swell(width, height, strtoul(words[4], NULL, 10), count - 5, words + 5);
     } else if (count == 6) {
         printf("P5\n# a test picture\n%zu %zu\n%s\n", width, height, words[4]);
         put_luma(words[5], width, height, 0);

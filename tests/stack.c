@@ -39,6 +39,12 @@ static void call_sides(void)
     answer = ((int64_t (*)(size_t, size_t, uint32_t))callee)(640, 480, BRINE_MODE_FAST);
 }
 
+static void call_reduced(void)
+{
+    answer = ((int64_t (*)(uint32_t, size_t, PLANE, PLANE))callee)(8, 2, LENT(first), second, COUNT, WIDTH / 2, HEIGHT / 2,
+                                                                   WIDTH, 0);
+}
+
 static void call_planes(void)
 {
     answer = ((int64_t (*)(uint32_t, PLANE, PLANE))callee)(8, LENT(first), LENT(second));
@@ -79,6 +85,7 @@ static const struct measure {
     any *function, *call;
 } measures[] = {
     {"brine_scale_factor", (any *)brine_scale_factor, call_sides},
+    {"brine_reduce", (any *)brine_reduce, call_reduced},
     {"brine_plane_difference", (any *)brine_plane_difference, call_planes},
     {"brine_importance_total", (any *)brine_importance_total, call_planes},
     {"brine_delta", (any *)brine_delta, call_planes_real},

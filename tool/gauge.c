@@ -1,7 +1,6 @@
 #include "gauge.h"
 
 #include "brinepulley.h"
-#include "picture.h"
 
 #include <stdlib.h>
 
@@ -26,16 +25,21 @@ static bool make_room(struct gauge *gauge)
     return gauge->full && gauge->before && gauge->now && gauge->work && gauge->blocks;
 }
 
-/* Fetches a frame into `now`, reduced. */
-static enum fetched fetch(struct gauge *gauge)
+/* Fetches a frame into `now`, reduced; *ended where there is none. */
+static enum status fetch(struct gauge *gauge, bool *ended)
 {
     struct film *film = gauge->film;
-    if (gauge->factor == 1)
-        return film->next(film, gauge->now);
-    const enum fetched fetched = film->next(film, gauge->full);
-    if (fetched == FRAME)
-        picture_reduce(gauge->now, gauge->full, film->width, film->height, gauge->factor);
-    return fetched;
+    const bool whole = gauge->factor == 1;
+    const enum fetched fetched = film->next(film, whole ? gauge->now : gauge->full);
+    *ended = fetched == END;
+    if (fetched == BROKEN)
+        return FAILED;
+    if (*ended || whole)
+        return DONE;
+    const int64_t answer =
+        brine_reduce(8, gauge->factor, gauge->full, film->width * film->height, film->width, film->height, film->width, 0,
+                     gauge->now, gauge->width * gauge->height, gauge->width, gauge->height, gauge->width, 0);
+    return answer < 0 ? say_refused(answer, "%s: its frames cannot be reduced", film->name) : DONE;
 }
 
 enum status gauge_start(struct gauge *gauge, struct film *film, struct costs *costs, uint32_t mode)
@@ -50,10 +54,9 @@ enum status gauge_start(struct gauge *gauge, struct film *film, struct costs *co
     gauge->block_count = (gauge->width / 8) * (gauge->height / 8);
     if (!make_room(gauge))
         return say_failed("%s: not enough memory for its frames", film->name);
-    const enum fetched fetched = fetch(gauge);
-    if (fetched == END)
-        return say_failed("%s: it has no frame", film->name);
-    return fetched == FRAME ? DONE : FAILED;
+    bool ended;
+    const enum status status = fetch(gauge, &ended);
+    return ended ? say_failed("%s: it has no frame", film->name) : status;
 }
 
 static int64_t measure_fast(struct gauge *g, struct pair *pair)
@@ -86,10 +89,9 @@ enum status gauge_next(struct gauge *gauge, struct pair *pair, bool *ended)
     gauge->now = last;
     *pair = (struct pair){0};
 
-    const enum fetched fetched = fetch(gauge);
-    *ended = fetched == END;
-    if (fetched != FRAME)
-        return fetched == END ? DONE : FAILED;
+    const enum status status = fetch(gauge, ended);
+    if (status != DONE || *ended)
+        return status;
     int64_t answer = 0;
     if (gauge->mode == BRINE_MODE_FAST)
         answer = measure_fast(gauge, pair);

@@ -119,8 +119,11 @@ static enum status measure_reduced(struct picture *a, struct picture *b, char **
     const int64_t factor = brine_scale_factor(a->width, a->height, BRINE_MODE_FAST);
     if (factor < 0)
         return picture_refused(names[0], a->width, a->height, a->depth, factor);
-    picture_shrink(a, (size_t)factor);
-    picture_shrink(b, (size_t)factor);
+    enum status status = picture_shrink(a, names[0], (size_t)factor);
+    if (status == DONE)
+        status = picture_shrink(b, names[1], (size_t)factor);
+    if (status != DONE)
+        return status;
     answer = measure_pair(a, b, &measures);
     return answer < 0 ? refused(a, b, names, answer) : write_measures(&measures, a, (size_t)factor);
 }

@@ -1,5 +1,7 @@
 #include "picture.h"
 
+#include "brinepulley.h"
+
 #include <ctype.h>
 #include <errno.h>
 #include <stdio.h>
@@ -126,28 +128,23 @@ enum status picture_refused(const char *name, size_t width, size_t height, uint3
                        side == SIZE_MAX ? " or more" : "", LARGEST_SIDE);
 }
 
-static uint8_t square_mean(const uint8_t *corner, size_t stride, size_t factor)
+/* The library reduces into another place: lent places must not overlap. */
+enum status picture_shrink(struct picture *picture, const char *name, size_t factor)
 {
-    const uint32_t squares = (uint32_t)(factor * factor);
-    uint32_t sum = squares / 2;
-    for (size_t y = 0; y < factor; y++)
-        for (size_t x = 0; x < factor; x++)
-            sum += corner[y * stride + x];
-    return (uint8_t)(sum / squares);
-}
-
-void picture_reduce(uint8_t *to, const uint8_t *from, size_t width, size_t height, size_t factor)
-{
-    for (size_t y = 0; y < height / factor; y++)
-        for (size_t x = 0; x < width / factor; x++)
-            *to++ = square_mean(from + y * factor * width + x * factor, width, factor);
-}
-
-/* A square's mean goes to a place that no later square holds: in front of it, or its own first sample. */
-void picture_shrink(struct picture *picture, size_t factor)
-{
-    picture_reduce(picture->samples, picture->samples, picture->width, picture->height, factor);
-    picture->width /= factor;
-    picture->height /= factor;
-    picture->count = picture->width * picture->height;
+    const size_t width = picture->width / factor, height = picture->height / factor, count = width * height;
+    uint8_t *reduced = malloc(count + 1);
+    if (reduced == NULL)
+        return say_failed("%s: not enough memory for its %zu samples, reduced", name, count);
+    const int64_t answer = brine_reduce(picture->depth, factor, picture->samples, picture->count, picture->width,
+                                        picture->height, picture->width, 0, reduced, count, width, height, width, 0);
+    if (answer < 0) {
+        free(reduced);
+        return say_refused(answer, "%s: it cannot be reduced by %zu", name, factor);
+    }
+    free(picture->samples);
+    picture->samples = reduced;
+    picture->width = width;
+    picture->height = height;
+    picture->count = count;
+    return DONE;
 }

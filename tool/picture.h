@@ -23,14 +23,10 @@ void picture_free(struct picture *picture);
 /* Whether the library will refuse a side of it. */
 bool picture_has_bad_side(const struct picture *picture);
 
-/* Reduces the picture by the factor, in its place. */
-void picture_shrink(struct picture *picture, size_t factor);
+/* Reduces the picture by the factor; `name` is for what is said on a fault, and then the picture is as it was. */
+enum status picture_shrink(struct picture *picture, const char *name, size_t factor);
 
 /* Says which side or depth the library refused, of a picture or of a film's frames. */
 enum status picture_refused(const char *name, size_t width, size_t height, uint32_t depth, int64_t answer);
-
-/* The mean of each square of factor × factor samples, rounded to the nearest, a half up. Samples right of and below the
-   last whole square are left out. This is the command's own and is not proved. `to` has room for the reduced samples. */
-void picture_reduce(uint8_t *to, const uint8_t *from, size_t width, size_t height, size_t factor);
 
 #endif

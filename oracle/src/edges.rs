@@ -9,7 +9,7 @@ use crate::reading::{self, FAST, NONE, STANDARD, State};
 use crate::run::Film;
 use crate::sizes::{LAST, LENGTH, NUMBERS, SCORES, SET_LIMIT};
 
-fn flat(width: u64, height: u64, value: u8) -> Lent {
+pub fn flat(width: u64, height: u64, value: u8) -> Lent {
     Lent { samples: vec![value; (width * height) as usize], width, height, stride: width, origin: 0 }
 }
 

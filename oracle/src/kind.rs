@@ -15,4 +15,5 @@ pub enum Kind {
     Film = 10,
     Log = 11,
     Append = 12,
+    Reduce = 13,
 }

@@ -10,6 +10,7 @@ use crate::measures_reading::{Lent, intra_fault};
 use crate::plane_cases::{depth, hurt_one, intra_of, pair_of, shaped};
 use crate::random::Random;
 use crate::reading::{self, Call, ROOM, SCORES, STANDARD, State};
+use crate::reduce_cases;
 
 /// How often each measure is drawn; some are refused. How many calls the crate answers.
 const MEASURES: u64 = 150;
@@ -19,6 +20,8 @@ const LOGS: u64 = 40;
 const LOG_MOST: u64 = 12;
 /// How many recorders append to a log of their own.
 const RECORDERS: u64 = 5;
+/// How many reductions are drawn.
+const REDUCTIONS: u64 = 25;
 
 fn sides(r: &mut Random) -> (u64, u64) {
     if r.once_in(2) {
@@ -175,9 +178,10 @@ pub fn all(desk: &mut Desk, r: &mut Random) {
         detector_cases::run(desk, r);
     }
     logs(desk, r);
+    reductions(desk, r);
 }
 
-/// The logs come last: the lines above are the same with them and without.
+/// The logs come behind the detector: the lines above are the same with them and without.
 fn logs(desk: &mut Desk, r: &mut Random) {
     log_edges::all(desk);
     for _ in 0..LOGS {
@@ -186,5 +190,26 @@ fn logs(desk: &mut Desk, r: &mut Random) {
     }
     for _ in 0..RECORDERS {
         log_cases::recorder(desk, r);
+    }
+}
+
+/// The reductions come last, for the same reason. Those that are drawn have two to four squares a side.
+fn reductions(desk: &mut Desk, r: &mut Random) {
+    reduce_cases::edges(desk);
+    reduce_cases::orders(desk);
+    for _ in 0..REDUCTIONS {
+        let factor = r.of(&[1, 2, 2, 4, 4, 8]);
+        let sides = [0; 2].map(|_| r.from_to(2, if factor == 8 { 2 } else { 4 }));
+        let plane = |r: &mut Random, width: u64, height: u64| {
+            let (mut l, len) = shaped(r, width, height);
+            l.samples = samples(r, len);
+            l
+        };
+        let [width, height] = sides.map(|n| n * factor + r.below(factor));
+        let (mut a, mut reduced) = (plane(r, width, height), plane(r, sides[0], sides[1]));
+        if r.once_in(4) {
+            hurt_one(r, &mut a, &mut reduced);
+        }
+        reduce_cases::reduce_of(desk, depth(r), factor, &a, &reduced);
     }
 }

@@ -22,6 +22,7 @@ mod paper;
 mod plane_cases;
 mod random;
 mod reading;
+mod reduce_cases;
 mod run;
 mod sizes;
 mod stream;
@@ -68,10 +69,11 @@ fn main() {
         detector_cases::run(&mut desk, &mut r);
     }
     logs(&mut desk, &mut r, count / 10 + 20);
+    reductions(&mut desk, &mut r, count / 5 + 20);
     finish(&mut out, &tally, seed);
 }
 
-/// The logs come last: the cases above are the same with them and without.
+/// The logs come behind the detector: the cases above are the same with them and without.
 fn logs(desk: &mut Desk, r: &mut Random, count: u64) {
     log_edges::all(desk);
     log_edges::large(desk);
@@ -81,6 +83,16 @@ fn logs(desk: &mut Desk, r: &mut Random, count: u64) {
     }
     for _ in 0..count / 20 {
         log_cases::recorder(desk, r);
+    }
+}
+
+/// The reductions come last, for the same reason.
+fn reductions(desk: &mut Desk, r: &mut Random, count: u64) {
+    reduce_cases::edges(desk);
+    reduce_cases::orders(desk);
+    reduce_cases::large(desk);
+    for _ in 0..count {
+        reduce_cases::reduce(desk, r);
     }
 }
 

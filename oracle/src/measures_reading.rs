@@ -28,17 +28,25 @@ impl Lent {
     }
 }
 
-pub fn planes_fault(depth: u64, a: &Lent, b: &Lent) -> u32 {
-    if depth != 8 {
-        return 5;
-    }
+/// 1 and 2 of the first plane, then of the second.
+fn each_fault(a: &Lent, b: &Lent) -> u32 {
     for plane in [a, b] {
         let fault = plane.fault();
         if fault != 0 {
             return fault;
         }
     }
-    if (a.width, a.height) != (b.width, b.height) { 3 } else { 0 }
+    0
+}
+
+pub fn planes_fault(depth: u64, a: &Lent, b: &Lent) -> u32 {
+    if depth != 8 {
+        return 5;
+    }
+    match each_fault(a, b) {
+        0 if (a.width, a.height) != (b.width, b.height) => 3,
+        fault => fault,
+    }
 }
 
 pub fn intra_fault(depth: u64, a: &Lent, work: &Lent, costs: usize) -> u32 {
@@ -46,6 +54,37 @@ pub fn intra_fault(depth: u64, a: &Lent, work: &Lent, costs: usize) -> u32 {
         0 if (costs as u64) < a.blocks() => 4,
         fault => fault,
     }
+}
+
+/// The plane to reduce, and the one that takes it reduced.
+pub fn reduce_fault(depth: u64, factor: u64, a: &Lent, reduced: &Lent) -> u32 {
+    if ![1, 2, 4, 8, 16, 32].contains(&factor) {
+        return 6;
+    }
+    if depth != 8 {
+        return 5;
+    }
+    if a.width < factor || a.height < factor {
+        return 1;
+    }
+    let sides = (a.width / factor, a.height / factor);
+    match each_fault(a, reduced) {
+        0 if (reduced.width, reduced.height) != sides => 3,
+        fault => fault,
+    }
+}
+
+/// The samples of the lent plane afterwards: of each whole square the sum and half its number of samples, over that number.
+pub fn reduce(factor: u64, a: &Lent, reduced: &Lent) -> Vec<u8> {
+    let (mut after, number) = (reduced.samples.clone(), factor * factor);
+    for y in 0..a.height / factor {
+        for x in 0..a.width / factor {
+            let sample = |i: u64| u64::from(a.sample(x * factor + i % factor, y * factor + i / factor));
+            let sum: u64 = (0..number).map(sample).sum();
+            after[(reduced.origin + y * reduced.stride + x) as usize] = ((sum + number / 2) / number) as u8;
+        }
+    }
+    after
 }
 
 pub fn difference(a: &Lent, b: &Lent) -> u64 {

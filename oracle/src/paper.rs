@@ -40,6 +40,7 @@ impl Paper {
             Kind::Step => self.step(&mut r),
             Kind::Log => self.log(&mut r),
             Kind::Append => self.append(&mut r),
+            Kind::Reduce => self.reduce(&mut r),
             Kind::End | Kind::Film => (),
         }
         assert!(matches!(kind, Kind::End | Kind::Film) || r.0.is_empty());
@@ -94,6 +95,14 @@ impl Paper {
         let numbers = [depth, first, work, vec![room.len() as u64]].concat();
         let (answer, after, costs) = (r.word(), r.bytes(), r.halves());
         self.call('C', answer, &numbers, &[(COSTS, &costs), (SECOND, &after)]);
+    }
+
+    /// The factor stands where the length of the costs does.
+    fn reduce(&mut self, r: &mut Reader) {
+        let (depth, factor) = (r.words(1), r.words(1));
+        let numbers = [depth, self.plane(FIRST, r), self.plane(SECOND, r), factor].concat();
+        let (answer, after) = (r.word(), r.bytes());
+        self.call('V', answer, &numbers, &[(SECOND, &after)]);
     }
 
     /// Lengths stand where those of planes do.

@@ -49,13 +49,13 @@ pub fn shaped(r: &mut Random, width: u64, height: u64) -> (Lent, usize) {
     (Lent { samples: Vec::new(), width, height, stride, origin }, size)
 }
 
-fn lent(r: &mut Random, width: u64, height: u64) -> Lent {
+pub fn lent(r: &mut Random, width: u64, height: u64) -> Lent {
     let (mut l, size) = shaped(r, width, height);
     l.samples = picture(r, size);
     l
 }
 
-fn plane(l: &Lent) -> Plane<u8> {
+pub fn plane(l: &Lent) -> Plane<u8> {
     let [width, height, stride, origin] = [l.width, l.height, l.stride, l.origin].map(|n| n as usize);
     Plane::over(l.samples.clone(), PlaneGeometry { width, height, stride, origin })
 }
@@ -87,7 +87,7 @@ pub fn depth(r: &mut Random) -> u64 {
     if r.once_in(60) { r.of(&[0, 7, 9, 10, 12, 16, 1 << 31, u64::from(u32::MAX)]) } else { 8 }
 }
 
-fn put(out: &mut Stream, l: &Lent) {
+pub fn put(out: &mut Stream, l: &Lent) {
     out.word(l.width).word(l.height).word(l.stride).word(l.origin).bytes(&l.samples);
 }
 

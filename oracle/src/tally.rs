@@ -7,6 +7,8 @@ pub struct Tally {
     pub cuts: u64,
     pub measures: u64,
     pub films: u64,
+    /// Reductions by what stands in place of the crate's, whose text is missing.
+    pub reductions: u64,
     /// Calls and measures beside these that the reading alone answers: the crate cannot be asked.
     pub read_calls: u64,
     pub read_measures: u64,
@@ -37,11 +39,12 @@ impl Tally {
 
     pub fn print(&self, seed: u64) {
         eprintln!(
-            "oracle: seed {seed}: the crate answered {} detector calls, {} measures, {} films; the reading alone {} calls, \
-             {} measures, {} of the log; {} cuts; crate and reading differ on {}",
+            "oracle: seed {seed}: the crate answered {} detector calls, {} measures, {} films; the shims {} reductions; the \
+             reading alone {} calls, {} measures, {} of the log; {} cuts; crate and reading differ on {}",
             self.calls,
             self.measures,
             self.films,
+            self.reductions,
             self.read_calls,
             self.read_measures,
             self.read_logs,

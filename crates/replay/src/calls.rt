@@ -117,7 +117,7 @@ fn end(desk: &mut [u64]) -> bool {
 pub fn replay(letter: u8, desk: &mut [u64]) -> bool {
     match letter {
         b'N' | b'F' => detect(letter, desk),
-        b'P' | b'M' | b'D' | b'I' | b'B' | b'C' | b'T' => planes::replay(letter, desk),
+        b'P' | b'M' | b'D' | b'I' | b'B' | b'C' | b'T' | b'V' => planes::replay(letter, desk),
         b'L' | b'R' | b'A' => logs::replay(letter, desk),
         b'H' | b'G' => transform(letter, desk),
         b'S' => scale(desk),

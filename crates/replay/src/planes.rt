@@ -65,6 +65,17 @@ fn intra(desk: &[u64], first: &[u8], second: &mut [u8], costs: &mut [u32]) -> i6
     brinepulley::brine_intra_costs(d, p, a.w, a.h, a.s, a.o, q, b.w, b.h, b.s, b.o, c)
 }
 
+// The second plane takes the first one reduced; then the factor.
+fn reduction(desk: &[u64], first: &[u8], second: &mut [u8]) -> i64 {
+    let d = half(desk, 1);
+    let a = shape_at(desk, 2);
+    let b = shape_at(desk, 7);
+    let p = parts::samples(first, 0, a.n);
+    let q = parts::work(second, 0, b.n);
+    let f = len(desk, 12);
+    brinepulley::brine_reduce(d, f, p, a.w, a.h, a.s, a.o, q, b.w, b.h, b.s, b.o)
+}
+
 // The SATD of the samples of both planes.
 fn satd(desk: &[u64], first: &[u8], second: &[u8]) -> i64 {
     let p = parts::samples(first, 0, len(desk, 2));
@@ -91,6 +102,7 @@ fn call(
         b'D' | b'I' => ratio(letter, desk, first, second, x),
         b'B' => satd(desk, first, second),
         b'C' => intra(desk, first, second, costs),
+        b'V' => reduction(desk, first, second),
         _ => threshold(desk, costs, x),
     }
 }

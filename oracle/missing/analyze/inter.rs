@@ -11,7 +11,7 @@ use crate::{
     data::{
         hadamard,
         motion::RefMEStats,
-        plane::AsRegion,
+        plane::{AsRegion, downscale_in_place},
         sad::sad_plane,
         satd::get_satd,
     },
@@ -71,6 +71,18 @@ impl<T: Pixel> SceneChangeDetector<T> {
         match &self.scale_func {
             Some(f) => (f.downscale)(plane, NonZeroU8::new(8).unwrap()),
             None => plane.clone(),
+        }
+    }
+
+    /// The same by a factor above 1, into a plane that is there.
+    pub fn door_reduce(plane: &Plane<T>, factor: usize, out: &mut Plane<T>) {
+        match factor {
+            2 => downscale_in_place::<T, 2>(plane, out),
+            4 => downscale_in_place::<T, 4>(plane, out),
+            8 => downscale_in_place::<T, 8>(plane, out),
+            16 => downscale_in_place::<T, 16>(plane, out),
+            32 => downscale_in_place::<T, 32>(plane, out),
+            _ => panic!("no reduction has this factor"),
         }
     }
 

@@ -1,0 +1,150 @@
+//! Planes that are reduced by a factor into a lent plane. The text of the crate's reduction is missing: the answers are those
+//! of what stands in its place, plain Rust of the shims. With a factor of 1 they are the reading's alone.
+use crate::attempt::attempt;
+use crate::desk::Desk;
+use crate::edges::flat;
+use crate::measures_reading::{self as read, Lent};
+use crate::plane_cases::{depth, hurt_one, lent, plane, put};
+use crate::random::Random;
+use crate::stream::Kind;
+use crate::tally::Ran;
+
+type Scenes = scenes::SceneChangeDetector<u8>;
+
+const FACTORS: [u64; 6] = [1, 2, 4, 8, 16, 32];
+/// Numbers that are none of the six, some of them by their high bits alone.
+const OTHERS: [u64; 12] = [0, 3, 5, 6, 12, 31, 33, 64, 256 + 2, (1 << 32) + 4, 1 << 63, u64::MAX];
+/// The library goes through a row in chunks of so many samples.
+const CHUNK: u64 = 128;
+
+/// A side of so many whole squares, and a part of one more.
+fn side(r: &mut Random, factor: u64, squares: u64) -> u64 {
+    squares * factor + if r.once_in(3) { 0 } else { r.below(factor) }
+}
+
+/// Few squares, or about as many as one chunk or two have, or any number of them.
+fn width(r: &mut Random, factor: u64) -> u64 {
+    let squares = match r.below(8) {
+        0..=3 => r.from_to(1, (80 / factor).max(2)),
+        4..=6 => r.from_to(1, 2) * CHUNK / factor - 1 + r.below(3),
+        _ => r.from_to(1, 320 / factor),
+    };
+    side(r, factor, squares)
+}
+
+fn height(r: &mut Random, factor: u64) -> u64 {
+    let squares = r.from_to(1, (16 / factor).max(2));
+    side(r, factor, squares)
+}
+
+/// The sides of the lent plane: the reduced ones, or one of them is off by one.
+fn reduced_sides(r: &mut Random, sides: [u64; 2], factor: u64) -> [u64; 2] {
+    let mut reduced = sides.map(|n| (n / factor).max(1));
+    if r.once_in(12) {
+        let which = &mut reduced[r.below(2) as usize];
+        *which = if r.once_in(2) { *which + 1 } else { (*which).max(2) - 1 };
+    }
+    reduced
+}
+
+pub fn reduce(desk: &mut Desk, r: &mut Random) {
+    let mut factor = r.of(&FACTORS);
+    let mut sides = [width(r, factor), height(r, factor)];
+    if factor > 1 && r.once_in(16) {
+        sides[r.below(2) as usize] = r.from_to(1, factor - 1);
+    }
+    let [low, short] = reduced_sides(r, sides, factor);
+    let (mut a, mut reduced) = (lent(r, sides[0], sides[1]), lent(r, low, short));
+    while r.once_in(8) {
+        hurt_one(r, &mut a, &mut reduced);
+    }
+    let mut depth = depth(r);
+    if r.once_in(24) {
+        factor = r.of(&OTHERS);
+        depth = r.of(&[depth, depth, 9]);
+    }
+    reduce_of(desk, depth, factor, &a, &reduced);
+}
+
+pub fn reduce_of(desk: &mut Desk, depth: u64, factor: u64, a: &Lent, reduced: &Lent) {
+    let fault = read::reduce_fault(depth, factor, a, reduced);
+    let mut after = reduced.samples.clone();
+    if fault == 0 {
+        after = shown(desk, factor, a, reduced, read::reduce(factor, a, reduced));
+    } else {
+        desk.tally.refusal(fault, Ran::NotAsked);
+    }
+    desk.out.word(depth).word(factor);
+    put(desk.out, a);
+    put(desk.out, reduced);
+    desk.out.answer(-i64::from(fault)).bytes(&after).end(Kind::Reduce);
+}
+
+/// What the shims make of the lent plane, beside what the reading makes of it. They stop where a mutant of the reading lets
+/// in a lent plane that is too large.
+fn shown(desk: &mut Desk, factor: u64, a: &Lent, reduced: &Lent, ours: Vec<u8>) -> Vec<u8> {
+    if factor == 1 {
+        desk.tally.read_measures += 1;
+        return ours;
+    }
+    let (from, mut to) = (plane(a), plane(reduced));
+    let theirs = attempt(|| Scenes::door_reduce(&from, factor as usize, &mut to)).map(|()| to.samples);
+    if theirs.as_ref() != Some(&ours) {
+        desk.tally.differs("a reduction");
+    }
+    desk.tally.reductions += 1;
+    theirs.unwrap_or(ours)
+}
+
+/// A square of 0 with so many samples of 1, and behind it samples that belong to no whole square.
+fn square(factor: u64, ones: u64) -> Lent {
+    let mut l = flat(2 * factor - 1, factor + 1, 255);
+    for i in 0..factor * factor {
+        l.samples[(i / factor * l.width + i % factor) as usize] = u8::from(i < ones);
+    }
+    l
+}
+
+/// The largest sum at each factor, and both sides of the rounding.
+pub fn edges(desk: &mut Desk) {
+    let place = Lent { samples: vec![9; 5], origin: 2, ..flat(1, 1, 0) };
+    for factor in FACTORS {
+        reduce_of(desk, 8, factor, &flat(factor, factor, 255), &place);
+        let half = factor * factor / 2;
+        for ones in if half == 0 { 0..0 } else { half - 1..half + 1 } {
+            reduce_of(desk, 8, factor, &square(factor, ones), &place);
+        }
+    }
+}
+
+/// The longest rows.
+pub fn large(desk: &mut Desk) {
+    for factor in FACTORS {
+        reduce_of(desk, 8, factor, &flat(8192, factor + 1, 254), &flat(8192 / factor, (factor + 1) / factor, 3));
+    }
+}
+
+/// Calls to which two refusals apply, of which the first is due: 6, 5, 1 and 2 of the plane, 1 and 2 of the lent one, 3. A
+/// side below the factor is 1, whatever the lent sides are.
+pub fn orders(desk: &mut Desk) {
+    let (sound, place) = (flat(5, 4, 7), flat(2, 2, 9));
+    let (short, small) = (Lent { stride: 6, ..sound.clone() }, flat(5, 1, 7));
+    let lent = |width: u64, samples: usize| Lent { samples: vec![9; samples], width, ..place.clone() };
+    for (depth, factor, a, reduced, due) in [
+        (9, 3, &sound, place.clone(), 6),
+        (9, 2, &small, place.clone(), 5),
+        (8, 2, &Lent { stride: 4, samples: vec![7; 9], ..sound.clone() }, place.clone(), 1),
+        (8, 2, &small, flat(2, 1, 9), 1),
+        (8, 2, &Lent { samples: vec![], ..small.clone() }, flat(2, 1, 9), 1),
+        (8, 2, &short, lent(0, 4), 2),
+        (8, 2, &sound, lent(3, 3), 1),
+        (8, 2, &sound, lent(0, 4), 1),
+        (8, 2, &sound, lent(1, 2), 2),
+        (8, 2, &sound, lent(1, 3), 3),
+    ] {
+        if read::reduce_fault(depth, factor, a, &reduced) != due {
+            desk.tally.differs("another refusal of a reduction is due");
+        }
+        reduce_of(desk, depth, factor, a, &reduced);
+    }
+}
