@@ -73,7 +73,7 @@ fn reduction(desk: &[u64], first: &[u8], second: &mut [u8]) -> i64 {
     let p = parts::samples(first, 0, a.n);
     let q = parts::work(second, 0, b.n);
     let f = len(desk, 12);
-    brinepulley::brine_reduce(d, f, p, a.w, a.h, a.s, a.o, q, b.w, b.h, b.s, b.o)
+    brinepulley::frames::brine_reduce(d, f, p, a.w, a.h, a.s, a.o, q, b.w, b.h, b.s, b.o)
 }
 
 // The SATD of the samples of both planes.
