@@ -1,10 +1,9 @@
 -- What a caller of the reduction may rely on is true. Assumes nothing.
 use mathlib.Core.Bool.{Bool, true, false, cond, _||_}
-use mathlib.Core.Path.{_≡_, refl, sym, ap, _∙_}
+use mathlib.Core.Path.{_≡_, refl, ap, _∙_}
 use Prim.Native.Nat.{ℕ, _+_, _-_, _*_, _/_, _%_, _≤_, _<_}
-use native.Mathlib.Decide.{decLt}
 use native.Mathlib.Omega.{arith}
-use borrow.Author.Tests.{le-leb, lt-leb, lt-ltb, le-ltb, leb-true, leb-false, ltb-true, ltb-false}
+use borrow.Author.Tests.{le-ltb, leb-false, ltb-true, ltb-false}
 use lib.Arith.{digits-div, digits-mod}
 use lib.Dec.{ltb, leb, eqb}
 use lib.ListN.{length, getD}
@@ -12,11 +11,11 @@ use Rattle.answer.proofs.Laws.{or-no, passed}
 use Rattle.plane.specs.Planes.{badSide}
 use Rattle.plane.proofs.PlaneLaws.{lies, row-in, good-side}
 use Rattle.scale.specs.Scale.{factorBy, scaleOf, sizeFault, smallEdge, modeFast, modeStandard}
-use Rattle.sums.specs.Places.{inRun, inRows}
+use Rattle.sums.specs.Places.{inRows}
 use Rattle.sums.proofs.PlaceLaws.{rows-hold}
 use Rattle.sums.proofs.WrittenLaws.{written-at}
 use Rattle.reduce.specs.Promises.{MeansOfSquares, TakesTheScale}
-use Rattle.reduce.specs.Reduce.{squareMean, rowAt, columnOf, badFactor, tooSmall}
+use Rattle.reduce.specs.Reduce.{squareMean, rowAt, columnAt, badFactor, tooSmall}
 
 pub means-of-squares : MeansOfSquares
 means-of-squares f p s q r y x e h i =
@@ -27,9 +26,9 @@ means-of-squares f p s q r y x e h i =
     let seen : inRows (q .origin) (q .stride) (q .height) (q .width) k ≡ true = rows-hold (q .origin) (q .stride) (q .height) (q .width) y x h i in
     let place : k - q .origin ≡ y * q .stride + x = omega arith in
     let row : rowAt q k ≡ y = ap (λ (j : ℕ). j / q .stride) place ∙ digits-div y inside in
-    let column : columnOf q k ≡ x = ap (λ (j : ℕ). j % q .stride) place ∙ digits-mod y inside in
-    written-at (inRows (q .origin) (q .stride) (q .height) (q .width)) (λ (j : ℕ). squareMean f p s (rowAt q j) (columnOf q j)) r k room
-    ∙ ap (λ (t : Bool). cond t (squareMean f p s (rowAt q k) (columnOf q k)) (getD r k 0)) seen
+    let column : columnAt q k ≡ x = ap (λ (j : ℕ). j % q .stride) place ∙ digits-mod y inside in
+    written-at (inRows (q .origin) (q .stride) (q .height) (q .width)) (λ (j : ℕ). squareMean f p s (rowAt q j) (columnAt q j)) r k room
+    ∙ ap (λ (t : Bool). cond t (squareMean f p s (rowAt q k) (columnAt q k)) (getD r k 0)) seen
     ∙ rw (row, column)
 
 -- a factor that is taken, and no side of at least so much is below it

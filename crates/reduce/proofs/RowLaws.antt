@@ -16,7 +16,7 @@ use Rattle.plane.proofs.PlaneLaws.{Lies, row-in}
 use Rattle.plane.proofs.SquareLaws.{square-is}
 use Rattle.sums.specs.Means.{meanOf}
 use Rattle.sums.specs.Places.{inRun}
-use Rattle.reduce.specs.Reduce.{squareMean, rowAt, columnOf, notReduced}
+use Rattle.reduce.specs.Reduce.{squareMean, rowAt, columnAt, notReduced}
 use Rattle.reduce.specs.Needs.{sumCount, RowsIn, meanFrom, Half}
 
 -- ---- chunks
@@ -118,8 +118,8 @@ meanTo f s origin stride origin2 stride2 k =
     meanOf (f * f) (squareFrom f s (origin + (k - origin2) / stride2 * f * stride + (k - origin2) % stride2 * f) stride)
 
 pub mean-place : (f : ℕ) (p : Plane) (s : List ℕ) (q : Plane) (k : ℕ)
-    → meanTo f s (p .origin) (p .stride) (q .origin) (q .stride) k ≡ squareMean f p s (rowAt q k) (columnOf q k)
-mean-place f p s q k = ap (meanOf (f * f)) (square-is f p s (rowAt q k) (columnOf q k))
+    → meanTo f s (p .origin) (p .stride) (q .origin) (q .stride) k ≡ squareMean f p s (rowAt q k) (columnAt q k)
+mean-place f p s q k = ap (meanOf (f * f)) (square-is f p s (rowAt q k) (columnAt q k))
 
 -- k places behind the start of row y goes the mean of square k of that row
 pub mean-to : (f : ℕ) (s : List ℕ) (origin stride origin2 stride2 y k : ℕ) → k < stride2

@@ -1,6 +1,6 @@
 -- A plane reduced by a factor. Document 01 leaves this out: "planes arrive already reduced". What is done, and its refusals, are decided in
 -- docs/DECISIONS.md, with document 01's numbers in document 01's order.
-use Prim.Native.Nat.{ℕ, _+_, _-_, _*_, _/_, _%_}
+use Prim.Native.Nat.{ℕ, _-_, _*_, _/_, _%_}
 use mathlib.Core.Bool.{Bool, not, _||_}
 use mathlib.Core.List.{List}
 use lib.Dec.{ltb, eqb}
@@ -21,8 +21,8 @@ abbrev pub squareMean : ℕ → Plane → List ℕ → ℕ → ℕ → ℕ
 squareMean f p s y x = meanOf (f * f) (squareSum f p s y x)
 
 -- place k of the lent samples is sample (x, y) of the reduced plane q, where x and y are these
-abbrev pub columnOf : Plane → ℕ → ℕ
-columnOf q k = (k - q .origin) % q .stride
+abbrev pub columnAt : Plane → ℕ → ℕ
+columnAt q k = (k - q .origin) % q .stride
 
 abbrev pub rowAt : Plane → ℕ → ℕ
 rowAt q k = (k - q .origin) / q .stride
@@ -30,7 +30,7 @@ rowAt q k = (k - q .origin) / q .stride
 -- each visible sample of q becomes the mean of its square of p; every other lent sample, padding included, stays
 abbrev pub reducedAfter : ℕ → Plane → List ℕ → Plane → List ℕ → List ℕ
 reducedAfter f p s q r =
-    written (inRows (q .origin) (q .stride) (q .height) (q .width)) (λ (k : ℕ). squareMean f p s (rowAt q k) (columnOf q k)) r
+    written (inRows (q .origin) (q .stride) (q .height) (q .width)) (λ (k : ℕ). squareMean f p s (rowAt q k) (columnAt q k)) r
 
 -- ---- when it is refused
 

@@ -10,7 +10,7 @@ use Rattle.sums.specs.Needs.{byteMost}
 use Rattle.sums.specs.Table.{table}
 use Rattle.sums.proofs.SumLaws.{sum-none}
 use Rattle.sums.proofs.TableLaws.{length-table, table-at, table-below, is-table}
-use Rattle.reduce.specs.Needs.{sumCount, pairAt, pairFrom, pairsFrom}
+use Rattle.reduce.specs.Needs.{sumCount, pairFrom, pairsFrom}
 use Rattle.reduce.proofs.ReduceLaws.{pair-part, pairs-most, pairs-next}
 use Rattle.reduce.proofs.add_all.Statement.{statement}
 use Rattle.reduce.proofs.add_all.Tie as tie

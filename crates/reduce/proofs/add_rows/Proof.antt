@@ -1,12 +1,11 @@
 -- `reduce::add_rows` meets its contract. After g turns the sums of the first g groups have gained both rows, each group lent as a part. Assumes nothing.
-use mathlib.Core.Path.{_≡_, refl, ap, _∙_}
-use Prim.Native.Nat.{ℕ, _+_, _*_, _^_, _≤_, _<_, _-_}
+use mathlib.Core.Path.{_≡_, refl, _∙_}
+use Prim.Native.Nat.{ℕ, _+_, _*_, _≤_, _<_, _-_}
 use native.Mathlib.Omega.{arith}
 use borrow.Author.Needs.{needs}
 use lib.Dec.{ltb}
 use lib.ListN.{length, getD, take, drop, length-take, length-drop}
 use Rattle.plane.proofs.SquareLaws.{part-at}
-use Rattle.sums.specs.Needs.{byteMost}
 use Rattle.sums.proofs.PlaceLaws.{fronts-none, fronts-next}
 use Rattle.sums.proofs.WrittenLaws.{prefix-all}
 use Rattle.sums.proofs.Wrote.{Wrote, wrote-none, wrote-part, wrote-all, front-old}

@@ -1,5 +1,5 @@
 -- `reduce::put_squares` meets its contract. After x turns the first x places have the means of their squares. Assumes nothing.
-use mathlib.Core.Path.{_≡_, ap}
+use mathlib.Core.Path.{ap}
 use Prim.Native.Nat.{ℕ, _+_, _*_, _≤_, _<_, _-_}
 use native.Mathlib.Nat.{mul-le-mul, mul-le-mul-right, add-mul, mul-pos, mul-assoc}
 use native.Mathlib.Omega.{arith}

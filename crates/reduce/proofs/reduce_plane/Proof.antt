@@ -11,7 +11,7 @@ use Rattle.sums.specs.Places.{inRows}
 use Rattle.sums.proofs.PlaceLaws.{rows-none, rows-next}
 use Rattle.sums.proofs.WrittenLaws.{written-value}
 use Rattle.sums.proofs.Wrote.{Wrote, wrote-none, wrote-part, wrote-all}
-use Rattle.reduce.specs.Reduce.{squareMean, rowAt, columnOf}
+use Rattle.reduce.specs.Reduce.{squareMean, rowAt, columnAt}
 use Rattle.reduce.specs.Needs.{RowsIn, meanFrom}
 use Rattle.reduce.proofs.ReduceLaws.{factor-small}
 use Rattle.reduce.proofs.RowLaws.{meanTo, mean-place, mean-to, reduced-sides, squares-in}
@@ -115,7 +115,7 @@ returns : tie.Need-returns Inv-loop μ-loop
 returns c =
     let a = c .before .before .before .before .args in
     wrote-all (λ (n : ℕ). inRows (a .q .origin) (a .q .stride) n (a .q .width)) (c .before .loop .y) (a .q .height) (c .before .loop .inv .1) (omega arith)
-    ∙ written-value (inRows (a .q .origin) (a .q .stride) (a .q .height) (a .q .width)) _ (λ (k : ℕ). squareMean (a .factor) (a .p) (a .s .now) (rowAt (a .q) k) (columnOf (a .q) k)) (a .reduced .now)
+    ∙ written-value (inRows (a .q .origin) (a .q .stride) (a .q .height) (a .q .width)) _ (λ (k : ℕ). squareMean (a .factor) (a .p) (a .s .now) (rowAt (a .q) k) (columnAt (a .q) k)) (a .reduced .now)
     (λ k _. mean-place (a .factor) (a .p) (a .s .now) (a .q) k)
 
 pub reduce-plane-spec : {M : Type 1} → statement M

@@ -1,6 +1,6 @@
 -- `reduce::sum_square` meets its contract. After j turns the sum is that of the first j rows. Assumes nothing.
 use mathlib.Core.Path.{_≡_}
-use Prim.Native.Nat.{ℕ, _+_, _*_, _^_, _≤_, _<_, _-_}
+use Prim.Native.Nat.{_+_, _*_, _^_, _≤_, _-_}
 use native.Mathlib.Nat.{mul-le-mul}
 use native.Mathlib.Omega.{arith}
 use borrow.Author.Needs.{needs}
