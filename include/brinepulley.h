@@ -14,7 +14,7 @@
  *    3  two planes differ in width or height; a plane to reduce into has other sides than the reduced ones
  *    4  the cost list is shorter than the number of blocks
  *    5  the depth is not 8
- *    6  a side of the resolution is outside 1 to 8,192, or the mode is not 0, 1 or 2, or the factor is none of the six
+ *    6  a side of the resolution is outside 1 to 8,192, or the mode is not 0, 1 or 2; a factor is none of 1, 2, 4, 8, 16 and 32
  *    7  the frame number is 0, or 2^32 or more, or below the previous keyframe's, or not one above the last call's
  *    8  a set has more than BRINE_SET_LIMIT frames, or more than the last call's
  *    9  a set of one frame with a lookahead below 5, an offset of 0 and a mode that scores

@@ -96,15 +96,19 @@ static void chunks(void)
         }
 }
 
-/* A square with so many samples of `low + 1` and the others `low`. */
+/* Equal squares side by side, each with so many samples of `low + 1` and the others `low`: one, and as many as a chunk has. */
 static void mean_of(size_t factor, size_t ones, uint8_t low, uint8_t want)
 {
-    const struct call c = reduce_shaped(factor, factor, factor, 0, 0);
-    memset(field, low, factor * factor);
-    memset(field + factor * factor - ones, low + 1, ones);
-    uint8_t *reduced = lent_make(&lent, c.reduced);
-    EXPECT_NUMBER(reduce_with(&c, reduced), 0);
-    EXPECT_NUMBER(reduced[0], want);
+    const size_t counts[] = {1, 128 / factor};
+    for (size_t k = 0; k < 2; k++) {
+        const struct call c = reduce_shaped(factor, counts[k] * factor, factor, 0, 0);
+        for (size_t i = 0; i < c.samples; i++)
+            field[i] = (uint8_t)(low + (i / c.stride * factor + i % factor < ones));
+        uint8_t *reduced = lent_make(&lent, c.reduced);
+        EXPECT_NUMBER(reduce_with(&c, reduced), 0);
+        for (size_t x = 0; x < counts[k]; x++)
+            EXPECT_NUMBER(reduced[x], want);
+    }
 }
 
 static void rounding(void)
@@ -120,16 +124,16 @@ static void rounding(void)
     }
 }
 
-/* Sums that are the largest and the smallest that there are. */
+/* Sums that are the largest and the smallest that there are, in more squares than a chunk has. */
 static void flat(void)
 {
     for (size_t i = 0; i < FACTORS; i++)
         for (int value = 0; value <= 255; value += 255) {
             const size_t f = factors[i];
-            const struct call c = reduce_shaped(f, 5 * f + f / 2, 3 * f, 2, 1);
+            const struct call c = reduce_shaped(f, 130 + f, 3 * f, 2, 1);
             memset(field, value, FIELD);
             agrees(c);
-            EXPECT_NUMBER(lent.whole[GUARD + c.origin2 + 2 * c.stride2 + 4], value);
+            EXPECT_NUMBER(lent.whole[GUARD + c.origin2 + 2 * c.stride2 + c.width2 - 1], value);
         }
 }
 

@@ -61,15 +61,22 @@ static void refusals(void)
     REFUSED(3, c.width2 = 4, c.height2 = 5, c.reduced += 6);                          /* the sides exchanged */
 }
 
-/* A side below the factor, at each factor above 1, whatever the lent plane is. */
+/* A side below the factor, at each factor above 1, whatever the lent plane is: a sound one would get 3. */
 static void small_sides(void)
 {
     for (size_t i = 1; i < FACTORS; i++) {
         const size_t f = factors[i];
-        REFUSED(1, c.factor = f, c.width = f - 1);
-        REFUSED(1, c.factor = f, c.height = f - 1, c.width2 = c.height2 = 1);
-        REFUSED(1, c.factor = f, c.width = f - 1, c.width2 = 0, c.height2 = 19 / f);
-        REFUSED(1, c.factor = f, c.width = f - 1, c.samples = 0, c.reduced = 0);
+        struct call c = reduce_shaped(f, 40, 36, 3, 6);
+        c.width = f - 1;
+        refused(c, 1);
+        c.reduced = 0;
+        refused(c, 1);
+        c = reduce_shaped(f, 40, 36, 3, 6);
+        c.height = f - 1;
+        c.height2 = 1;
+        refused(c, 1);
+        c.samples = 0;
+        refused(c, 1);
     }
 }
 

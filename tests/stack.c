@@ -39,10 +39,11 @@ static void call_sides(void)
     answer = ((int64_t (*)(size_t, size_t, uint32_t))callee)(640, 480, BRINE_MODE_FAST);
 }
 
+/* 65 squares in a row: from 64 on they are taken in chunks, which want the most stack. */
 static void call_reduced(void)
 {
-    answer = ((int64_t (*)(uint32_t, size_t, PLANE, PLANE))callee)(8, 2, LENT(first), second, COUNT, WIDTH / 2, HEIGHT / 2,
-                                                                   WIDTH, 0);
+    answer = ((int64_t (*)(uint32_t, size_t, PLANE, PLANE))callee)(8, 2, first, COUNT, 130, 18, 130, 0, second, COUNT, 65, 9, 65,
+                                                                   0);
 }
 
 static void call_planes(void)

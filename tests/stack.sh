@@ -18,8 +18,8 @@ told "$ARCHIVE" > "$room/rows"
 verdict "the depth of every function can be told" $?
 depths "$room/rows" > "$room/depths"
 awk '/^\/\* ---- /{ on = /---- measures ----/ } on' "$header" | grep -oE '\bbrine_[a-z0-9_]+ *\(' | tr -d ' (' | sort -u > "$room/measures"
-[ "$(wc -l < "$room/measures")" -ge 10 ]
-verdict "the header declares ten measures or more" $?
+[ "$(wc -l < "$room/measures")" -ge 11 ]
+verdict "the header declares eleven measures or more" $?
 cut -d ' ' -f 1 "$room/depths" | sort > "$room/names"
 comm -23 "$room/measures" "$room/names" > "$room/log"
 [ ! -s "$room/log" ]
@@ -38,7 +38,7 @@ grep -w -F -f "$room/measures" "$room/depths" > "$room/few"
 within "$room/few"
 verdict "every measure takes $most bytes of stack at most" $?
 
-# A run takes no more than was told, and SATD really takes its block of differences.
+# A run takes no more than was told; SATD really takes its block of differences, and the reduction the sums of a chunk.
 # shellcheck disable=SC2086 # words
 $COMPILER -std=c11 -D_POSIX_C_SOURCE=200809L -O2 -Wall -Wextra -Werror -I"$here/../include" $STATIC -o "$room/stack" "$here/stack.c" \
     "$ARCHIVE" > "$room/log" 2>&1
@@ -52,6 +52,8 @@ awk 'NR == FNR { told[$1] = $2; next } !($1 in told) || $2 > told[$1]' "$room/de
 verdict "a run takes no more than was told" $?
 awk '$1 == "brine_satd8x8" && $2 >= 256 { found = 1 } END { exit !found }' "$room/used"
 verdict "a run of SATD takes 256 bytes or more" $?
+awk '$1 == "brine_reduce" && $2 >= 128 { found = 1 } END { exit !found }' "$room/used"
+verdict "a run of the reduction takes 128 bytes or more" $?
 
 # What the tests are to see: compiled functions that take more, or whose stack cannot be told.
 object() { # NAME PROGRAM OPTIONS..

@@ -90,7 +90,7 @@ fn logs(desk: &mut Desk, r: &mut Random, count: u64) {
 fn reductions(desk: &mut Desk, r: &mut Random, count: u64) {
     reduce_cases::edges(desk);
     reduce_cases::orders(desk);
-    reduce_cases::large(desk);
+    reduce_cases::large(desk, r);
     for _ in 0..count {
         reduce_cases::reduce(desk, r);
     }

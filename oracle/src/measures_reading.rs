@@ -56,7 +56,7 @@ pub fn intra_fault(depth: u64, a: &Lent, work: &Lent, costs: usize) -> u32 {
     }
 }
 
-/// The plane to reduce, and the one that takes it reduced.
+/// Not document 01's: the header's words. The plane to reduce, and the one that takes it reduced.
 pub fn reduce_fault(depth: u64, factor: u64, a: &Lent, reduced: &Lent) -> u32 {
     if ![1, 2, 4, 8, 16, 32].contains(&factor) {
         return 6;

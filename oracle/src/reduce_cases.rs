@@ -53,8 +53,8 @@ pub fn reduce(desk: &mut Desk, r: &mut Random) {
     if factor > 1 && r.once_in(16) {
         sides[r.below(2) as usize] = r.from_to(1, factor - 1);
     }
-    let [low, short] = reduced_sides(r, sides, factor);
-    let (mut a, mut reduced) = (lent(r, sides[0], sides[1]), lent(r, low, short));
+    let [wide, high] = reduced_sides(r, sides, factor);
+    let (mut a, mut reduced) = (lent(r, sides[0], sides[1]), lent(r, wide, high));
     while r.once_in(8) {
         hurt_one(r, &mut a, &mut reduced);
     }
@@ -96,31 +96,35 @@ fn shown(desk: &mut Desk, factor: u64, a: &Lent, reduced: &Lent, ours: Vec<u8>) 
     theirs.unwrap_or(ours)
 }
 
-/// A square of 0 with so many samples of 1, and behind it samples that belong to no whole square.
-fn square(factor: u64, ones: u64) -> Lent {
-    let mut l = flat(2 * factor - 1, factor + 1, 255);
-    for i in 0..factor * factor {
-        l.samples[(i / factor * l.width + i % factor) as usize] = u8::from(i < ones);
+/// Squares side by side, of 0 with samples of 1: half of them in every second one, and one fewer in the others. Behind them and
+/// below are samples that belong to no whole square, where there can be any.
+fn squares(factor: u64, count: u64) -> Lent {
+    let mut l = flat(count * factor + factor - 1, factor + u64::from(factor > 1), 255);
+    for x in 0..count {
+        let ones = (factor * factor / 2 + x % 2).saturating_sub(1);
+        for i in 0..factor * factor {
+            l.samples[(i / factor * l.width + x * factor + i % factor) as usize] = u8::from(i < ones);
+        }
     }
     l
 }
 
-/// The largest sum at each factor, and both sides of the rounding.
+/// At each factor both sides of the rounding and the largest sum: of few squares, and of one more than a chunk has.
 pub fn edges(desk: &mut Desk) {
-    let place = Lent { samples: vec![9; 5], origin: 2, ..flat(1, 1, 0) };
     for factor in FACTORS {
-        reduce_of(desk, 8, factor, &flat(factor, factor, 255), &place);
-        let half = factor * factor / 2;
-        for ones in if half == 0 { 0..0 } else { half - 1..half + 1 } {
-            reduce_of(desk, 8, factor, &square(factor, ones), &place);
+        for count in [2, CHUNK / factor + 1] {
+            let place = Lent { samples: vec![9; count as usize + 4], origin: 2, ..flat(count, 1, 0) };
+            reduce_of(desk, 8, factor, &squares(factor, count), &place);
+            reduce_of(desk, 8, factor, &flat(count * factor, factor, 255), &place);
         }
     }
 }
 
 /// The longest rows.
-pub fn large(desk: &mut Desk) {
+pub fn large(desk: &mut Desk, r: &mut Random) {
     for factor in FACTORS {
-        reduce_of(desk, 8, factor, &flat(8192, factor + 1, 254), &flat(8192 / factor, (factor + 1) / factor, 3));
+        let (a, reduced) = (lent(r, 8192, factor + 1), lent(r, 8192 / factor, (factor + 1) / factor));
+        reduce_of(desk, 8, factor, &a, &reduced);
     }
 }
 

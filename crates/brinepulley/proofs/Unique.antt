@@ -20,6 +20,8 @@ use Rattle.brinepulley.proofs.brine_intra_costs.Kinds as intra-costs-ki
 use Rattle.brinepulley.proofs.brine_intra_costs.Reads as intra-costs-reads
 use Rattle.brinepulley.proofs.brine_threshold.Kinds as threshold-kinds
 use Rattle.brinepulley.proofs.brine_threshold.Reads as threshold-reads
+use Rattle.brinepulley.proofs.frames.brine_reduce.Kinds as reduce-kinds
+use Rattle.brinepulley.proofs.frames.brine_reduce.Reads as reduce-reads
 use Rattle.brinepulley.proofs.brine_hadamard4x4.Kinds as hadamard4x4-kinds
 use Rattle.brinepulley.proofs.brine_hadamard4x4.Reads as hadamard4x4-reads
 use Rattle.brinepulley.proofs.brine_hadamard8x8.Kinds as hadamard8x8-kinds
@@ -65,6 +67,9 @@ importance-unique κs a r r′ e e′ p q = same r r′ (now (e .1 .1 .1 .1 .1 .
 
 pub threshold-unique : OneOutcome 2 threshold-kinds.ps threshold-kinds.r (ℤ × Float) (λ κs r e. (r, now (e .1 .1 .0))) threshold-reads.Post
 threshold-unique κs a r r′ e e′ p q = same r r′ (now (e .1 .1 .0)) (now (e′ .1 .1 .0)) p q
+
+pub reduce-unique : OneOutcome 2 reduce-kinds.ps reduce-kinds.r (ℤ × List ℕ) (λ κs r e. (r, now (e .1 .1 .1 .1 .1 .1 .1 .0))) reduce-reads.Post
+reduce-unique κs a r r′ e e′ p q = same r r′ (now (e .1 .1 .1 .1 .1 .1 .1 .0)) (now (e′ .1 .1 .1 .1 .1 .1 .1 .0)) p q
 
 pub hadamard4x4-unique : OneOutcome 1 hadamard4x4-kinds.ps hadamard4x4-kinds.r (ℤ × List ℤ) (λ κs r e. (r, now (e .0))) hadamard4x4-reads.Post
 hadamard4x4-unique κs a r r′ e e′ p q = same r r′ (now (e .0)) (now (e′ .0)) p q

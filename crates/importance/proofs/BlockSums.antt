@@ -12,6 +12,7 @@ use Rattle.plane.proofs.BlockLaws.{row-starts}
 use Rattle.plane.proofs.PlaneLaws.{Lies, Pair, pair, measured, total-fits}
 use Rattle.plane.proofs.SquareLaws.{square-is, square-most}
 use Rattle.sums.specs.Sums.{sumBelow, apart}
+use Rattle.sums.proofs.MeanLaws.{mean-most}
 use Rattle.sums.proofs.SumLaws.{sum-ext, sum-most, NextSum, next-sum}
 use Rattle.importance.specs.Importance.{blockSum, mean, blockDifference, blocksDifference, importanceTotal}
 
@@ -25,7 +26,7 @@ module _ (k : ℕ) (s : List ℕ) (l : (i : ℕ) → getD s i 0 ≤ k) where
 
 -- two means of such sums lie at most k apart
 pub means-most : (k m n : ℕ) → m ≤ 64 * k → n ≤ 64 * k → apart (mean m) (mean n) ≤ k
-means-most k m n h i = omega arith
+means-most k m n h i = let a = mean-most k 64 m (omega arith) h in let b = mean-most k 64 n (omega arith) i in omega arith
 
 -- the difference of block x, by the places where its row of blocks starts
 abbrev pub gapOf : List ℕ → ℕ → ℕ → List ℕ → ℕ → ℕ → ℕ → ℕ

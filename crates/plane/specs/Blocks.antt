@@ -1,5 +1,5 @@
--- Document 01, "Importance" and "Intra cost": the whole 8×8 blocks of a plane. Block (x, y) is in row y of blocks and column x. They are its
--- squares of side 8; a plane is reduced by its squares of another side.
+-- Document 01, "Importance" and "Intra cost": the whole 8×8 blocks of a plane. Block (x, y) is in row y of blocks and column x. A block is a
+-- square of side 8; a plane is reduced by its squares of any side.
 use Prim.Native.Nat.{ℕ, _+_, _*_, _/_}
 use mathlib.Core.Bool.{_&&_, cond}
 use mathlib.Core.List.{List}

@@ -1,13 +1,14 @@
 -- What a caller of the reduction may rely on is true. Assumes nothing.
 use mathlib.Core.Bool.{Bool, true, false, cond, _||_}
-use mathlib.Core.Path.{_≡_, refl, ap, _∙_}
+use mathlib.Core.Path.{_≡_, refl, sym, ap, _∙_}
 use Prim.Native.Nat.{ℕ, _+_, _-_, _*_, _/_, _%_, _≤_, _<_}
 use native.Mathlib.Omega.{arith}
-use borrow.Author.Tests.{le-ltb, leb-false, ltb-true, ltb-false}
+use borrow.Author.Tests.{le-ltb, leb-false, ltb-true, ltb-false, eq-eqb}
 use lib.Arith.{digits-div, digits-mod}
 use lib.Dec.{ltb, leb, eqb}
 use lib.ListN.{length, getD}
-use Rattle.answer.proofs.Laws.{or-no, passed}
+use Rattle.answer.specs.Answer.{Answer, gives, refused, answered}
+use Rattle.answer.proofs.Laws.{or-no, passed, answer-cases}
 use Rattle.plane.specs.Planes.{badSide}
 use Rattle.plane.proofs.PlaneLaws.{lies, row-in, good-side}
 use Rattle.scale.specs.Scale.{factorBy, scaleOf, sizeFault, smallEdge, modeFast, modeStandard}
@@ -15,7 +16,7 @@ use Rattle.sums.specs.Places.{inRows}
 use Rattle.sums.proofs.PlaceLaws.{rows-hold}
 use Rattle.sums.proofs.WrittenLaws.{written-at}
 use Rattle.reduce.specs.Promises.{MeansOfSquares, TakesTheScale}
-use Rattle.reduce.specs.Reduce.{squareMean, rowAt, columnAt, badFactor, tooSmall}
+use Rattle.reduce.specs.Reduce.{squareMean, rowAt, columnAt, badFactor, tooSmall, notReduced}
 
 pub means-of-squares : MeansOfSquares
 means-of-squares f p s q r y x e h i =
@@ -83,10 +84,26 @@ sides width height mode e =
     let u = or-no (badSide width) (badSide height) (t .0) in
     (good-side width (u .0) .0, good-side height (u .1) .0)
 
+-- what is answered: nothing is refused, and the two sides are the divided ones
+answered-sides : (fault a b c d : ℕ) → answered {A = ℕ × ℕ} fault (a, b) ≡ gives (c, d) → (fault ≡ 0) × ((c ≡ a) × (d ≡ b))
+answered-sides fault a b c d e =
+    answer-cases (λ (x : Answer (ℕ × ℕ)). x ≡ gives (c, d) → (fault ≡ 0) × ((c ≡ a) × (d ≡ b))) fault (a, b) (λ none q. (none, same q)) (λ _ q. absurd (clash fault q)) e
+  where
+    same : _≡_ {A = Answer (ℕ × ℕ)} (gives (a, b)) (gives (c, d)) → (c ≡ a) × (d ≡ b)
+    same q = let pair : _≡_ {A = ℕ × ℕ} (a, b) (c, d) = cc in (sym (ap (λ (x : ℕ × ℕ). x .0) pair), sym (ap (λ (x : ℕ × ℕ). x .1) pair))
+
+    clash : (f : ℕ) → _≡_ {A = Answer (ℕ × ℕ)} (refused f) (gives (c, d)) → ⊥
+    clash f q = let z : _≡_ {A = ℕ} 0 1 = cc in omega arith
+
 pub takes-the-scale : TakesTheScale
-unfolding tooSmall
-takes-the-scale width height mode p e w h =
-    let s = sides width height mode e in
+unfolding tooSmall notReduced
+takes-the-scale width height mode p q w h e =
+    let f = scaleOf width height mode in
+    let a = answered-sides (sizeFault width height mode) (width / f) (height / f) (q .width) (q .height) e in
+    let s = sides width height mode (a .0) in
     let t = by-mode width height mode (s .0) (s .1) in
-    let least = edge-least width height in
-    (t .good, rw (le-ltb (p .width) (scaleOf width height mode) (omega (arith, t .small, least)), le-ltb (p .height) (scaleOf width height mode) (omega (arith, t .small, least))))
+    let least = edge-least width height in (
+      t .good,
+      rw (le-ltb (p .width) f (omega (arith, t .small, least)), le-ltb (p .height) f (omega (arith, t .small, least))),
+      rw (w, h, eq-eqb (q .width) (width / f) (a .1 .0), eq-eqb (q .height) (height / f) (a .1 .1)),
+    )

@@ -7,15 +7,15 @@ use Rattle.plane.specs.Needs.{squareFrom}
 use Rattle.sums.specs.Means.{meanOf}
 use Rattle.sums.specs.Sums.{sumBelow}
 
--- how many sums a chunk has, each of two columns side by side; how many are taken at once, and in how many groups
+-- how many sums a chunk has, each of two columns side by side; how many are taken at once, and in how many turns
 abbrev pub sumCount : ℕ
 sumCount = 64
 
 abbrev pub laneCount : ℕ
 laneCount = 8
 
-abbrev pub groupCount : ℕ
-groupCount = 8
+abbrev pub turnCount : ℕ
+turnCount = 8
 
 -- m rows of n samples, a stride apart from place `start` on, lie within a list of so many samples
 pub record RowsIn (start stride m n most : ℕ) : Type 0 where

@@ -6,8 +6,9 @@ use mathlib.Core.Path.{_≡_}
 use lib.ListN.{length}
 use Rattle.plane.specs.Planes.{sampleAt, planeFault}
 use Rattle.plane.specs.declared.Plane.{Plane}
-use Rattle.scale.specs.Scale.{sizeFault, scaleOf}
-use Rattle.reduce.specs.Reduce.{squareMean, reducedAfter, badFactor, tooSmall}
+use Rattle.answer.specs.Answer.{gives}
+use Rattle.scale.specs.Scale.{scaleOf, reducedSides}
+use Rattle.reduce.specs.Reduce.{squareMean, reducedAfter, badFactor, tooSmall, notReduced}
 
 -- sample (x, y) of the lent plane is the mean of square (x, y), once it is written
 abbrev pub MeansOfSquares : Type 0
@@ -16,8 +17,8 @@ MeansOfSquares =
     → sampleAt q (reducedAfter f p s q r) y x ≡ squareMean f p s y x
 
 -- what the scale rule answers is taken: of a plane with the sides that it was asked for, its factor gets neither 6 nor the 1 of a plane that
--- is too small
+-- is too small, and a lent plane with the sides that it reduces to does not get 3
 abbrev pub TakesTheScale : Type 0
 TakesTheScale =
-    (width height mode : ℕ) (p : Plane) → sizeFault width height mode ≡ 0 → p .width ≡ width → p .height ≡ height
-    → (badFactor (scaleOf width height mode) ≡ false) × (tooSmall (scaleOf width height mode) p ≡ false)
+    (width height mode : ℕ) (p q : Plane) → p .width ≡ width → p .height ≡ height → reducedSides width height mode ≡ gives (q .width, q .height)
+    → let f = scaleOf width height mode in (badFactor f ≡ false) × (tooSmall f p ≡ false) × (notReduced f p q ≡ false)

@@ -19,12 +19,12 @@ ghost use Rattle.sums.specs.Written.{written};
 ghost use Rattle.reduce.specs.Reduce.{badFactor, notReduced, reduceFault, reducedAfter, reducedOf};
 ghost use Rattle.reduce.specs.Needs.{sumCount, laneCount, RowsIn, pairAt, pairsFrom, groupOf, meanFrom, Half};
 
-// The sums of a chunk, those that are taken at once, and how often they are.
+// How many sums a chunk has, how many are taken at once, and in how many turns.
 const SUMS: usize = 64;
 
 const LANES: usize = 8;
 
-const GROUPS: usize = 8;
+const TURNS: usize = 8;
 
 // The first n samples of one part at the start of another.
 fn copy_row(to: &mut [u8], from: &[u8], n: usize)
@@ -64,7 +64,7 @@ fn add_rows(sums: &mut [u16], a: &[u8], b: &[u8])
     requires { ⌜ ((k : ℕ) → k < sumCount → getD (now sums) k 0 + 4 * byteMost < 2 ^ 16) ⌝ }
     ensures { λ _. ⌜ now (sums .exit) ≡ table sumCount (λ (k : ℕ). getD (now (sums .entry)) k 0 + (pairAt (now (a .entry)) k + pairAt (now (b .entry)) k)) ⌝ }
 {
-    for g in 0..GROUPS {
+    for g in 0..TURNS {
         let at = g * LANES;
         let from = 2 * at;
         add_lanes(&mut sums[at..], &a[from..], &b[from..]);
@@ -121,7 +121,7 @@ fn put_chunk(out: &mut [u8], s: &[u8], start: usize, stride: usize, half: usize)
     requires { ⌜ RowsIn start stride (2 * half) (2 * sumCount) (length (now s)) ⌝ }
     ensures { λ _. ⌜ now (out .exit) ≡ written (λ (k : ℕ). ltb k (sumCount / half)) (meanFrom (2 * half) (now (s .entry)) start stride) (now (out .entry)) ⌝ }
 {
-    let mut sums = [0u16; 64];
+    let mut sums = [0u16; SUMS];
     add_all(&mut sums[..], s, start, stride, half);
     match half {
         1 => put_means(out, &sums[..], 64, 1, 4),

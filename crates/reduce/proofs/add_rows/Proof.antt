@@ -1,4 +1,4 @@
--- `reduce::add_rows` meets its contract. After g turns the sums of the first g groups have gained both rows, each group lent as a part. Assumes nothing.
+-- `reduce::add_rows` meets its contract. After g turns the first 8 * g sums have gained both rows, eight at a time lent as a part. Assumes nothing.
 use mathlib.Core.Path.{_≡_, refl, _∙_}
 use Prim.Native.Nat.{ℕ, _+_, _*_, _≤_, _<_, _-_}
 use native.Mathlib.Omega.{arith}
@@ -9,17 +9,17 @@ use Rattle.plane.proofs.SquareLaws.{part-at}
 use Rattle.sums.proofs.PlaceLaws.{fronts-none, fronts-next}
 use Rattle.sums.proofs.WrittenLaws.{prefix-all}
 use Rattle.sums.proofs.Wrote.{Wrote, wrote-none, wrote-part, wrote-all, front-old}
-use Rattle.reduce.specs.Needs.{sumCount, laneCount, groupCount, pairAt}
+use Rattle.reduce.specs.Needs.{sumCount, laneCount, turnCount, pairAt}
 use Rattle.reduce.proofs.ReduceLaws.{pair-shift}
 use Rattle.reduce.proofs.add_rows.Statement.{statement}
 use Rattle.reduce.proofs.add_rows.Tie as tie
 
 abbrev Inv-loop : tie.InvT-loop
 Inv-loop sums₀ a b g₀ sums g =
-    (g ≤ groupCount) × Wrote (λ (k : ℕ). ltb k (g * laneCount)) (λ (k : ℕ). getD sums₀ k 0 + (pairAt a k + pairAt b k)) sums₀ sums
+    (g ≤ turnCount) × Wrote (λ (k : ℕ). ltb k (g * laneCount)) (λ (k : ℕ). getD sums₀ k 0 + (pairAt a k + pairAt b k)) sums₀ sums
 
 abbrev μ-loop : tie.MeasureT-loop
-μ-loop sums₀ a b g₀ sums g = groupCount - g
+μ-loop sums₀ a b g₀ sums g = turnCount - g
 
 loop-holds : tie.Need-loop-holds Inv-loop μ-loop
 loop-holds c = (search needs, wrote-none _ _ _ (fronts-none laneCount))
@@ -28,7 +28,7 @@ loop-holds c = (search needs, wrote-none _ _ _ (fronts-none laneCount))
 abbrev entry : tie.In-loop Inv-loop μ-loop → tie.Start Inv-loop μ-loop
 entry c = c .before .before .before .before .before
 
--- the turn's group lies within the sums, and its columns within both rows
+-- the turn's sums lie within the chunk's, and their columns within both rows
 inside : (c : tie.In-loop Inv-loop μ-loop)
     → let s = entry c .args in
     let g = c .before .loop .g in
@@ -76,12 +76,12 @@ part-add-lanes-start-3 c = omega (arith, inside (c .before .before))
 part-add-lanes-end-3 : tie.Need-part-add-lanes-end-3 Inv-loop μ-loop
 part-add-lanes-end-3 c = search needs
 
--- sum k of the group is as it was
-group-old : (c : tie.In-loop Inv-loop μ-loop)
+-- sum k of the turn is as it was
+turn-old : (c : tie.In-loop Inv-loop μ-loop)
     → let l = c .before .loop .sums in
     let at = c .before .loop .g * 8 in
     (k : ℕ) → k < laneCount → getD (take (length l - at) (drop at l)) k 0 ≡ getD (entry c .args .sums .now) (at + k) 0
-group-old c k h =
+turn-old c k h =
     let at = c .before .loop .g * 8 in
     part-at (c .before .loop .sums) at k (omega (arith, inside c)) ∙ front-old (c .before .loop .inv .1) (at + k) (omega arith) (omega (arith, inside c))
 
@@ -92,7 +92,7 @@ add-lanes-requires c κs =
       simp (length-take, length-drop) (omega arith),
       (
         (simp (length-take, length-drop) (omega arith), simp (length-take, length-drop) (omega arith)),
-        λ k k<. rw (group-old d k k<) (entry d .pre .1 .1 (d .before .loop .g * 8 + k) (omega arith)),
+        λ k k<. rw (turn-old d k k<) (entry d .pre .1 .1 (d .before .loop .g * 8 + k) (omega arith)),
       ),
     )
 
@@ -110,7 +110,7 @@ loop-again c =
     let at = d .before .loop .g * 8 in (
       search needs,
       wrote-part (d .before .loop .inv .1) at laneCount _ (h .3)
-          (λ k k<. omega (arith, group-old d k k<, pair-shift (s .a .now) at (2 * at) k refl (omega arith), pair-shift (s .b .now) at (2 * at) k refl (omega arith))) _
+          (λ k k<. omega (arith, turn-old d k k<, pair-shift (s .a .now) at (2 * at) k refl (omega arith), pair-shift (s .b .now) at (2 * at) k refl (omega arith))) _
           (c .before .before .add-lanes .ensures) (fronts-next laneCount (d .before .loop .g)),
     )
 
@@ -120,7 +120,7 @@ same-length c = c .before .loop .inv .1 .same
 returns : tie.Need-returns Inv-loop μ-loop
 returns c =
     let s = c .before .before .before .before .before in
-    wrote-all (λ (n k : ℕ). ltb k (n * laneCount)) (c .before .loop .g) groupCount (c .before .loop .inv .1) (omega arith)
+    wrote-all (λ (n k : ℕ). ltb k (n * laneCount)) (c .before .loop .g) turnCount (c .before .loop .inv .1) (omega arith)
     ∙ prefix-all sumCount _ (s .args .sums .now) (s .pre .0)
 
 pub add-rows-spec : {M : Type 1} → statement M
