@@ -129,7 +129,7 @@ pub fn large(desk: &mut Desk, r: &mut Random) {
 }
 
 /// Calls to which two refusals apply, of which the first is due: 6, 5, 1 and 2 of the plane, 1 and 2 of the lent one, 3. A
-/// side below the factor is 1, whatever the lent sides are.
+/// side below the factor is 1, whatever the lent sides are. Behind them lent sides that are larger.
 pub fn orders(desk: &mut Desk) {
     let (sound, place) = (flat(5, 4, 7), flat(2, 2, 9));
     let (short, small) = (Lent { stride: 6, ..sound.clone() }, flat(5, 1, 7));
@@ -145,6 +145,8 @@ pub fn orders(desk: &mut Desk) {
         (8, 2, &sound, lent(0, 4), 1),
         (8, 2, &sound, lent(1, 2), 2),
         (8, 2, &sound, lent(1, 3), 3),
+        (8, 2, &sound, flat(3, 2, 9), 3),
+        (8, 2, &sound, flat(2, 3, 9), 3),
     ] {
         if read::reduce_fault(depth, factor, a, &reduced) != due {
             desk.tally.differs("another refusal of a reduction is due");
