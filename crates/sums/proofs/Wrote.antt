@@ -1,5 +1,6 @@
 -- A loop that writes a list place by place, row by row or block by block: what the list holds after each turn. Every loop that
--- writes samples, sums or costs is one of these; none of the laws speaks of a sample's width. Assumes nothing.
+-- writes samples or costs is one of these, and every one that writes each sum once; none of the laws speaks of a sample's width.
+-- Assumes nothing.
 use mathlib.Core.Bool.{Bool, false, cond, _||_}
 use mathlib.Core.List.{List, [], _++_, append-nil}
 use mathlib.Core.Path.{_≡_, ap, subst, _∙_}
