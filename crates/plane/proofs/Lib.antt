@@ -1,4 +1,6 @@
 pub mod PlaneLaws
+pub mod SampleLaws
 pub mod BlockLaws
 pub mod SquareLaws
 pub mod Unique
+pub mod DeepUnique

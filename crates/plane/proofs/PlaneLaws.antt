@@ -12,7 +12,7 @@ use borrow.Author.Tests.{lt-ltb, le-ltb, le-leb, lt-leb, ltb-false, leb-true, le
 use Rattle.answer.specs.Refusal.{refusal, _orElse_}
 use Rattle.answer.proofs.Laws.{or-no, or-none, passed, test-given, test-first, test-passed, test-later}
 use Rattle.plane.specs.declared.Plane.{Plane}
-use Rattle.plane.specs.Planes.{sampleAt, rowEnd, rowOf, maxSide, badSide, badPlane, pastSamples, sizesDiffer, planeFault, sizesFault, byteFault, pairFault}
+use Rattle.plane.specs.Planes.{sampleAt, rowEnd, rowOf, maxSide, badSide, badPlane, pastSamples, sizesDiffer, planeFault, sizesFault}
 
 -- ---- tests
 
@@ -133,17 +133,6 @@ pair p n q m e =
       widths = eqb-true _ _ (not-false _ (d .0));
       heights = eqb-true _ _ (not-false _ (d .1));
     }
-
--- a measure that is not refused has two such planes
-pub measured : (depth : ℕ) (p : Plane) (a : List ℕ) (q : Plane) (b : List ℕ) → pairFault depth p a q b ≡ 0 → sizesFault p (length a) q (length b) ≡ 0
-unfolding pairFault
-measured depth p a q b e = or-none (byteFault depth) (sizesFault p (length a) q (length b)) e .1
-
--- the refusal of two planes looks at the lengths alone
-pub pair-lengths : (depth : ℕ) (p : Plane) (a a′ : List ℕ) (q : Plane) (b b′ : List ℕ)
-    → length a ≡ length a′ → length b ≡ length b′ → pairFault depth p a q b ≡ pairFault depth p a′ q b′
-unfolding pairFault
-pair-lengths depth p a a′ q b b′ e d = rw (e, d)
 
 -- a plane's total, at samples of 8 bits as of 16: any integer of 64 bits holds it, a signed one too
 pub total-fits : (n w k : ℕ) → n ≤ maxSide → w ≤ maxSide → k < 2 ^ 16 → n * (w * k) < 2 ^ 42

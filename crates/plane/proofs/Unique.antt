@@ -17,6 +17,8 @@ use Rattle.plane.proofs.depth_fault.Kinds as depth-fault-kinds
 use Rattle.plane.proofs.depth_fault.Reads as depth-fault-reads
 use Rattle.plane.proofs.byte_fault.Kinds as byte-fault-kinds
 use Rattle.plane.proofs.byte_fault.Reads as byte-fault-reads
+use Rattle.plane.proofs.shapes_fault.Kinds as shapes-fault-kinds
+use Rattle.plane.proofs.shapes_fault.Reads as shapes-fault-reads
 use Rattle.plane.proofs.pair_fault.Kinds as pair-fault-kinds
 use Rattle.plane.proofs.pair_fault.Reads as pair-fault-reads
 
@@ -38,6 +40,9 @@ depth-fault-unique κs a r r′ e e′ p q = p ∙ sym q
 
 pub byte-fault-unique : OneOutcome 0 byte-fault-kinds.ps byte-fault-kinds.r ℕ (λ κs r e. r) byte-fault-reads.Post
 byte-fault-unique κs a r r′ e e′ p q = p ∙ sym q
+
+pub shapes-fault-unique : OneOutcome 0 shapes-fault-kinds.ps shapes-fault-kinds.r ℕ (λ κs r e. r) shapes-fault-reads.Post
+shapes-fault-unique κs a r r′ e e′ p q = p ∙ sym q
 
 pub pair-fault-unique : OneOutcome 2 pair-fault-kinds.ps pair-fault-kinds.r ℕ (λ κs r e. r) pair-fault-reads.Post
 pair-fault-unique κs a r r′ e e′ p q = p ∙ sym q

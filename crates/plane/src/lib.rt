@@ -3,14 +3,15 @@ ghost use mathlib.Core.Path.{_≡_};
 ghost use Prim.Native.Nat.{_*_};
 ghost use lib.Dec.{leb};
 ghost use Rattle.plane.specs.Blocks.{blockRow};
-ghost use Rattle.plane.specs.Planes.{badSide, rowEnd, rowOf, planeFault, sizesFault, depthFault, byteFault, pairFault};
+ghost use Rattle.plane.specs.Needs.{SpanOf};
+ghost use Rattle.plane.specs.Planes.{badSide, rowEnd, rowOf, planeFault, sizesFault, byte, depthFault, wordFault, shapesFault, pairFault};
+
+pub mod deep;
 
 // The largest side, of a plane as of a resolution.
 const MAX_SIDE: usize = 8192;
 
-// The only depth that a detector may have so far, and the depth of samples that are bytes.
-const DEPTH: u64 = 8;
-
+// The depth of samples that are bytes.
 const BYTE_DEPTH: u64 = 8;
 
 // The side of a block.
@@ -22,6 +23,12 @@ pub struct Plane {
     pub height: usize,
     pub stride: usize,
     pub origin: usize,
+}
+
+// Where a row's visible samples stand among the lent ones.
+struct Span {
+    start: usize,
+    end: usize,
 }
 
 // Whether a side is 0 or above the largest.
@@ -79,18 +86,31 @@ impl Plane {
         2
     }
 
-    // Row y of the plane: its visible samples as a part of the lent ones, or none where they do not lie within.
-    pub fn row(self, s: &[u8], y: usize) -> &[u8]
-        ensures { λ r. ⌜ now r ≡ rowOf self (now (s .entry)) y ⌝ }
+    // Where row y stands over n samples; nowhere, if it does not lie within them.
+    fn span(self, n: usize, y: usize) -> Span
+        ensures { λ r. ⌜ SpanOf self n y (r .start) (r .end) ⌝ }
     {
         let width = self.width;
         let stride = self.stride;
         let origin = self.origin;
-        if self.row_lies(s.len(), y) {
+        if self.row_lies(n, y) {
             let start = origin + y * stride;
-            return &s[start..start + width];
+            return Span {
+                start,
+                end: start + width,
+            };
         }
-        &s[0..0]
+        Span { start: 0, end: 0 }
+    }
+
+    // Row y of the plane: its visible samples as a part of the lent ones, or none where they do not lie within.
+    pub fn row(self, s: &[u8], y: usize) -> &[u8]
+        ensures { λ r. ⌜ now r ≡ rowOf self (now (s .entry)) y ⌝ }
+    {
+        let part = self.span(s.len(), y);
+        let start = part.start;
+        let end = part.end;
+        &s[start..end]
     }
 
     // Where row y of blocks starts over n samples, or n where there is no such row. Block x starts x * BLOCK_SIDE further on.
@@ -113,12 +133,16 @@ impl Plane {
 pub fn depth_fault(depth: u64) -> u32
     ensures { λ r. ⌜ r ≡ depthFault depth ⌝ }
 {
-    if depth == DEPTH { 0 } else { 5 }
+    if (depth == BYTE_DEPTH) | deep::is_deep(depth) {
+        0
+    } else {
+        5
+    }
 }
 
 // Refusal 5 of a depth that samples of a byte do not have, or 0.
 pub fn byte_fault(depth: u64) -> u32
-    ensures { λ r. ⌜ r ≡ byteFault depth ⌝ }
+    ensures { λ r. ⌜ r ≡ wordFault byte depth ⌝ }
 {
     if depth == BYTE_DEPTH { 0 } else { 5 }
 }
@@ -142,13 +166,20 @@ fn sizes_fault(p: Plane, n: usize, q: Plane, m: usize) -> u32
     0
 }
 
-// The refusal of a measure of two planes over their lent samples, or 0: of the depth first, then of the planes.
-pub fn pair_fault(depth: u64, p: Plane, a: &[u8], q: Plane, b: &[u8]) -> u32
-    ensures { λ r. ⌜ r ≡ pairFault depth p (now (a .entry)) q (now (b .entry)) ⌝ }
+// The refusal of two planes of bytes by their shapes, or 0: of the depth first, then of the planes.
+pub fn shapes_fault(depth: u64, p: Plane, n: usize, q: Plane, m: usize) -> u32
+    ensures { λ r. ⌜ r ≡ shapesFault byte depth p n q m ⌝ }
 {
     let fault = byte_fault(depth);
     if fault != 0 {
         return fault;
     }
-    sizes_fault(p, a.len(), q, b.len())
+    sizes_fault(p, n, q, m)
+}
+
+// The refusal of a measure of two planes over their lent bytes, or 0. No byte is too large for its depth, so none is looked at.
+pub fn pair_fault(depth: u64, p: Plane, a: &[u8], q: Plane, b: &[u8]) -> u32
+    ensures { λ r. ⌜ r ≡ pairFault byte depth p (now (a .entry)) q (now (b .entry)) ⌝ }
+{
+    shapes_fault(depth, p, a.len(), q, b.len())
 }

@@ -1,5 +1,5 @@
 -- The laws of `anyBelow`. Assumes nothing.
-use mathlib.Core.Bool.{Bool, true, false, _||_}
+use mathlib.Core.Bool.{Bool, true, false, _||_, true≢false}
 use mathlib.Core.Path.{_≡_, refl, sym, ap, _∙_}
 use Prim.Native.Nat.{ℕ, zero, suc, _+_, _<_}
 use native.Mathlib.Decide.{decLt}
@@ -43,6 +43,12 @@ unfolding anyBelow
 any-ext zero f g e = refl
 any-ext (suc n) f g e = rw (any-ext n f g e, e n)
 
+-- equal as far as the range goes
+pub any-below : (n : ℕ) (f g : ℕ → Bool) → ((i : ℕ) → i < n → f i ≡ g i) → anyBelow n f ≡ anyBelow n g
+unfolding anyBelow
+any-below zero f g e = refl
+any-below (suc n) f g e = rw (any-below n f g (λ i l. e i (omega arith)), e n (omega arith))
+
 -- two tests at once
 pub any-or : (n : ℕ) (f g : ℕ → Bool) → anyBelow n (λ (i : ℕ). f i || g i) ≡ anyBelow n f || anyBelow n g
 unfolding anyBelow
@@ -69,3 +75,11 @@ any-some (suc n) i f h e = go (λ l. any-some n i f l e) (decLt i n)
     go : (i < n → anyBelow n f ≡ true) → Dec (i < n) → anyBelow n f || f n ≡ true
     go before (yes l) = rw (before l)
     go before (no m) = let last : i ≡ n = omega arith in rw (ap f (sym last) ∙ e) (or-true-right (anyBelow n f))
+
+-- so where none holds, each fails
+pub any-at : (n i : ℕ) (f : ℕ → Bool) → i < n → anyBelow n f ≡ false → f i ≡ false
+any-at n i f h e = by-case (f i) refl
+  where
+    by-case : (t : Bool) → f i ≡ t → f i ≡ false
+    by-case true d = absurd (true≢false (sym (any-some n i f h d) ∙ e))
+    by-case false d = d

@@ -1,7 +1,7 @@
 -- The laws of `sumBelow`. Each is stated over the function that is summed, so that it serves samples of any width. Assumes nothing.
 use mathlib.Core.Path.{_≡_, refl, sym, ap, _∙_}
-use Prim.Native.Nat.{ℕ, zero, suc, _+_, _*_, _≤_, _<_}
-use native.Mathlib.Nat.{add-zero, add-suc, mul-le-mul-right}
+use Prim.Native.Nat.{ℕ, zero, suc, _+_, _*_, _/_, _%_, _≤_, _<_}
+use native.Mathlib.Nat.{add-zero, add-suc, mul-add, mul-le-mul-right, mod-add-div}
 use native.Mathlib.Numerals.{add-one}
 use native.Mathlib.Omega.{arith}
 use Rattle.sums.specs.Sums.{sumBelow}
@@ -57,6 +57,16 @@ sum-both : (n : ℕ) (f g : ℕ → ℕ) → sumBelow n (λ (i : ℕ). f i + g i
 unfolding sumBelow
 sum-both zero f g = refl
 sum-both (suc n) f g = let rest = sum-both n f g in omega arith
+
+-- of remainders and of quotients: a number is both together
+pub sum-split : (m n : ℕ) (f : ℕ → ℕ) → sumBelow n (λ (i : ℕ). f i % m) + m * sumBelow n (λ (i : ℕ). f i / m) ≡ sumBelow n f
+unfolding sumBelow
+sum-split m zero f = omega arith
+sum-split m (suc n) f =
+    let rest = sum-split m n f in
+    let here = mod-add-div (f n) m in
+    let all = mul-add m (sumBelow n (λ (i : ℕ). f i / m)) (f n / m) in
+    omega arith
 
 -- of no number but 0
 sum-zeros : (n : ℕ) → sumBelow n (λ (i : ℕ). 0) ≡ 0

@@ -5,6 +5,8 @@ use lib.Ieee.{Float}
 use Rattle.answer.specs.Unique.{OneOutcome}
 use Rattle.sums.proofs.distance.Kinds as distance-kinds
 use Rattle.sums.proofs.distance.Reads as distance-reads
+use Rattle.sums.proofs.deep.distance.Kinds as deep-distance-kinds
+use Rattle.sums.proofs.deep.distance.Reads as deep-distance-reads
 use Rattle.sums.proofs.lesser.Kinds as lesser-kinds
 use Rattle.sums.proofs.lesser.Reads as lesser-reads
 use Rattle.sums.proofs.quotient.Kinds as quotient-kinds
@@ -12,6 +14,9 @@ use Rattle.sums.proofs.quotient.Reads as quotient-reads
 
 pub distance-unique : OneOutcome 0 distance-kinds.ps distance-kinds.r ℕ (λ κs r e. r) distance-reads.Post
 distance-unique κs a r r′ e e′ p q = p ∙ sym q
+
+pub deep-distance-unique : OneOutcome 0 deep-distance-kinds.ps deep-distance-kinds.r ℕ (λ κs r e. r) deep-distance-reads.Post
+deep-distance-unique κs a r r′ e e′ p q = p ∙ sym q
 
 pub quotient-unique : OneOutcome 0 quotient-kinds.ps quotient-kinds.r Float (λ κs r e. r) quotient-reads.Post
 quotient-unique κs a r r′ e e′ p q = p ∙ sym q

@@ -4,6 +4,8 @@ ghost use Prim.Native.Nat.{min};
 ghost use Rattle.sums.specs.Sums.{apart};
 ghost use Rattle.sums.specs.Quotient.{quotientOf};
 
+pub mod deep;
+
 // How far two samples lie apart. A signed difference, and all of it in 16 bits, since the compiler turns this form into
 // the fewest vector instructions.
 pub fn distance(x: u8, y: u8) -> u16
