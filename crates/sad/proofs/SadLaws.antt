@@ -6,8 +6,9 @@ use native.Mathlib.Nat.{mul-le-mul-right}
 use native.Mathlib.Omega.{arith}
 use lib.ListN.{length, getD}
 use Rattle.plane.specs.declared.Plane.{Plane}
-use Rattle.plane.specs.Planes.{maxSide, sampleAt, rowOf, pairFault}
-use Rattle.plane.proofs.PlaneLaws.{Lies, Pair, length-row, row-at, pair, measured, total-fits}
+use Rattle.plane.specs.Planes.{Word, maxSide, sampleAt, rowOf, pairFault}
+use Rattle.plane.proofs.PlaneLaws.{Lies, Pair, length-row, row-at, pair, total-fits}
+use Rattle.plane.proofs.SampleLaws.{measured}
 use Rattle.sums.specs.Sums.{sumBelow, apart}
 use Rattle.sums.proofs.SumLaws.{NextSum, next-sum, sum-ext, sum-most, sum-cut, sum-to}
 use Rattle.sad.specs.Difference.{rowSad, planeSad}
@@ -67,10 +68,10 @@ module _ (k : ℕ) (a b : List ℕ) (l : (i : ℕ) → getD a i 0 ≤ k) (m : (i
       (total-fits (p .height) (p .width) k (f .height-most) (f .width-most) s)
 
   -- two planes that are not refused
-  pub sad-most : (depth : ℕ) (p q : Plane) → k < 2 ^ 16 → pairFault depth p a q b ≡ 0 → planeSad p a q b < 2 ^ 42
+  pub sad-most : (word : Word) (depth : ℕ) (p q : Plane) → k < 2 ^ 16 → pairFault word depth p a q b ≡ 0 → planeSad p a q b < 2 ^ 42
   unfolding planeSad
-  sad-most depth p q s e =
-      let f = pair p (length a) q (length b) (measured depth p a q b e) .first in
+  sad-most word depth p q s e =
+      let f = pair p (length a) q (length b) (measured word depth p a q b e) .first in
       omega (arith, sum-most (p .width * k) (p .height) (rowSad p a q b) (λ y _. row-most p q y), total-fits (p .height) (p .width) k (f .height-most) (f .width-most) s)
 
 -- two rows that were taken out of their planes are as long as the planes are wide, and their sum is the planes' own

@@ -3,7 +3,7 @@ use Prim.Native.Nat.{ℕ, _*_}
 use mathlib.Core.List.{List}
 use lib.Ieee.{Float}
 use Rattle.answer.specs.Answer.{Answer}
-use Rattle.plane.specs.Planes.{sampleAt, pairAnswer}
+use Rattle.plane.specs.Planes.{Word, sampleAt, pairAnswer}
 use Rattle.plane.specs.declared.Plane.{Plane}
 use Rattle.sums.specs.Quotient.{quotientOf}
 use Rattle.sums.specs.Sums.{sumBelow, apart}
@@ -16,9 +16,9 @@ rowSad p a q b y = sumBelow (p .width) (λ (x : ℕ). apart (sampleAt p a y x) (
 unfoldable pub planeSad : Plane → List ℕ → Plane → List ℕ → ℕ
 planeSad p a q b = sumBelow (p .height) (rowSad p a q b)
 
-abbrev pub differenceOf : ℕ → Plane → List ℕ → Plane → List ℕ → Answer ℕ
-differenceOf depth p a q b = pairAnswer depth p a q b (planeSad p a q b)
+abbrev pub differenceOf : Word → ℕ → Plane → List ℕ → Plane → List ℕ → Answer ℕ
+differenceOf word depth p a q b = pairAnswer word depth p a q b (planeSad p a q b)
 
 -- "Delta is that sum over width × height."
-abbrev pub deltaOf : ℕ → Plane → List ℕ → Plane → List ℕ → Answer Float
-deltaOf depth p a q b = pairAnswer depth p a q b (quotientOf (planeSad p a q b) (p .width * p .height))
+abbrev pub deltaOf : Word → ℕ → Plane → List ℕ → Plane → List ℕ → Answer Float
+deltaOf word depth p a q b = pairAnswer word depth p a q b (quotientOf (planeSad p a q b) (p .width * p .height))

@@ -6,11 +6,13 @@ ghost use mathlib.Core.Path.{_≡_};
 ghost use Prim.Native.Nat.{_+_, _*_, _^_, _≤_, _<_};
 ghost use lib.ListN.{length};
 ghost use Rattle.answer.specs.Answer.{wholeAnswer, realAnswer};
-ghost use Rattle.plane.specs.Planes.{maxSide, sizesFault};
+ghost use Rattle.plane.specs.Planes.{byte, maxSide, sizesFault};
 ghost use Rattle.sums.specs.Needs.{byteMost};
 ghost use Rattle.sums.specs.Sums.{sumBelow};
 ghost use Rattle.sad.specs.Difference.{planeSad, differenceOf, deltaOf};
 ghost use Rattle.sad.specs.Needs.{gapAt, gapsFrom, LongRows};
+
+pub mod deep;
 
 // A row is taken in chunks of CHUNK samples, what is left of it in chunks of SMALL_CHUNK, and the last few one by one.
 const CHUNK: usize = 32;
@@ -73,7 +75,7 @@ fn sad_plane(p: Plane, a: &[u8], q: Plane, b: &[u8]) -> u64
 
 // The sum of absolute differences of two planes over their visible samples.
 pub fn plane_difference(depth: u64, p: Plane, a: &[u8], q: Plane, b: &[u8]) -> Whole
-    ensures { λ r. ⌜ wholeAnswer r ≡ differenceOf depth p (now (a .entry)) q (now (b .entry)) ⌝ }
+    ensures { λ r. ⌜ wholeAnswer r ≡ differenceOf byte depth p (now (a .entry)) q (now (b .entry)) ⌝ }
 {
     let fault = plane::pair_fault(depth, p, a, q, b);
     if fault != 0 {
@@ -84,7 +86,7 @@ pub fn plane_difference(depth: u64, p: Plane, a: &[u8], q: Plane, b: &[u8]) -> W
 
 // The plane difference over width × height, in a float.
 pub fn delta_in_planes(depth: u64, p: Plane, a: &[u8], q: Plane, b: &[u8]) -> Real
-    ensures { λ r. ⌜ realAnswer r ≡ deltaOf depth p (now (a .entry)) q (now (b .entry)) ⌝ }
+    ensures { λ r. ⌜ realAnswer r ≡ deltaOf byte depth p (now (a .entry)) q (now (b .entry)) ⌝ }
 {
     let fault = plane::pair_fault(depth, p, a, q, b);
     if fault != 0 {

@@ -10,6 +10,8 @@ ghost use Rattle.hadamard.specs.Steps.{AllWithin};
 ghost use Rattle.plane.specs.Blocks.{blockSide};
 ghost use Rattle.satd.specs.Satd.{blockSize, differences, absSum, satdOf};
 
+pub mod deep;
+
 // How many samples a block has.
 const SAMPLES: usize = 64;
 

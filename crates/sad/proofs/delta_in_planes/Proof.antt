@@ -7,7 +7,8 @@ use borrow.Author.Needs.{needs}
 use lib.ListN.{length}
 use Rattle.answer.proofs.Laws.{answer-given, answer-refused}
 use Rattle.plane.specs.Planes.{sizesFault}
-use Rattle.plane.proofs.PlaneLaws.{measured, pair}
+use Rattle.plane.proofs.PlaneLaws.{pair}
+use Rattle.plane.proofs.SampleLaws.{measured}
 use Rattle.sums.specs.Quotient.{quotientOf}
 use Rattle.sad.proofs.delta_in_planes.Statement.{statement}
 use Rattle.sad.proofs.delta_in_planes.Tie as tie
@@ -22,7 +23,7 @@ returns c = answer-refused _ _ _ (c .before .pair-fault .ensures) (c .if1 .taken
 sizes : (c : tie.Else1)
     → let s = c .before .before .before .before .args in
     sizesFault (s .p) (length (s .a .now)) (s .q) (length (s .b .now)) ≡ 0
-sizes c = measured _ _ _ _ _ (sym (c .before .pair-fault .ensures) ∙ c .if1 .left)
+sizes c = measured _ _ _ _ _ _ (sym (c .before .pair-fault .ensures) ∙ c .if1 .left)
 
 sad-plane-requires : tie.Need-sad-plane-requires
 sad-plane-requires c κs = sizes c
