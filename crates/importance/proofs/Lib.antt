@@ -1,2 +1,4 @@
 pub mod BlockSums
+pub mod RowLooks
 pub mod Unique
+pub mod DeepUnique

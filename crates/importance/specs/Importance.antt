@@ -4,7 +4,7 @@ use mathlib.Core.List.{List}
 use lib.Ieee.{Float}
 use Rattle.answer.specs.Answer.{Answer}
 use Rattle.plane.specs.Blocks.{blockSide, blocksAcross, blocksDown, blockCount, squareSum}
-use Rattle.plane.specs.Planes.{pairAnswer}
+use Rattle.plane.specs.Planes.{Word, pairAnswer}
 use Rattle.plane.specs.declared.Plane.{Plane}
 use Rattle.sums.specs.Means.{meanOf}
 use Rattle.sums.specs.Quotient.{quotientOf}
@@ -29,9 +29,9 @@ blocksDifference p a q b y = sumBelow (blocksAcross p) (blockDifference p a q b 
 unfoldable pub importanceTotal : Plane → List ℕ → Plane → List ℕ → ℕ
 importanceTotal p a q b = sumBelow (blocksDown p) (blocksDifference p a q b)
 
-abbrev pub totalOf : ℕ → Plane → List ℕ → Plane → List ℕ → Answer ℕ
-totalOf depth p a q b = pairAnswer depth p a q b (importanceTotal p a q b)
+abbrev pub totalOf : Word → ℕ → Plane → List ℕ → Plane → List ℕ → Answer ℕ
+totalOf word depth p a q b = pairAnswer word depth p a q b (importanceTotal p a q b)
 
 -- "the total over the number of blocks. With no whole block this is 0/0, a NaN."
-abbrev pub importanceOf : ℕ → Plane → List ℕ → Plane → List ℕ → Answer Float
-importanceOf depth p a q b = pairAnswer depth p a q b (quotientOf (importanceTotal p a q b) (blockCount p))
+abbrev pub importanceOf : Word → ℕ → Plane → List ℕ → Plane → List ℕ → Answer Float
+importanceOf word depth p a q b = pairAnswer word depth p a q b (quotientOf (importanceTotal p a q b) (blockCount p))

@@ -9,10 +9,12 @@ ghost use lib.ListN.{length, getD};
 ghost use Rattle.answer.specs.Answer.{wholeAnswer, realAnswer};
 ghost use Rattle.plane.specs.Blocks.{blockSide, blocksDown};
 ghost use Rattle.plane.specs.Needs.{squareFrom};
-ghost use Rattle.plane.specs.Planes.{sizesFault};
+ghost use Rattle.plane.specs.Planes.{byte, sizesFault};
 ghost use Rattle.sums.specs.Needs.{byteMost};
 ghost use Rattle.sums.specs.Sums.{sumBelow, apart};
 ghost use Rattle.importance.specs.Importance.{mean, blocksDifference, importanceTotal, totalOf, importanceOf};
+
+pub mod deep;
 
 // The sum of a part's first eight samples. The sums of a block are kept in 16 bits, so that one vector instruction adds
 // eight of them; in 32 bits it adds four, and every sample is widened twice.
@@ -83,7 +85,7 @@ fn all_differences(p: Plane, a: &[u8], q: Plane, b: &[u8]) -> u64
 
 // The importance total of two planes, before the division.
 pub fn importance_total(depth: u64, p: Plane, a: &[u8], q: Plane, b: &[u8]) -> Whole
-    ensures { λ r. ⌜ wholeAnswer r ≡ totalOf depth p (now (a .entry)) q (now (b .entry)) ⌝ }
+    ensures { λ r. ⌜ wholeAnswer r ≡ totalOf byte depth p (now (a .entry)) q (now (b .entry)) ⌝ }
 {
     let fault = plane::pair_fault(depth, p, a, q, b);
     if fault != 0 {
@@ -94,7 +96,7 @@ pub fn importance_total(depth: u64, p: Plane, a: &[u8], q: Plane, b: &[u8]) -> W
 
 // The importance of two planes: the total over the number of blocks, and with no block a NaN.
 pub fn importance(depth: u64, p: Plane, a: &[u8], q: Plane, b: &[u8]) -> Real
-    ensures { λ r. ⌜ realAnswer r ≡ importanceOf depth p (now (a .entry)) q (now (b .entry)) ⌝ }
+    ensures { λ r. ⌜ realAnswer r ≡ importanceOf byte depth p (now (a .entry)) q (now (b .entry)) ⌝ }
 {
     let fault = plane::pair_fault(depth, p, a, q, b);
     if fault != 0 {

@@ -4,7 +4,6 @@ use Prim.Native.Nat.{_^_, _≤_, _-_}
 use native.Mathlib.Omega.{arith}
 use borrow.Author.Needs.{needs}
 use Rattle.plane.specs.Blocks.{blocksDown}
-use Rattle.plane.proofs.PlaneLaws.{pair}
 use Rattle.sums.specs.Needs.{byteMost}
 use Rattle.sums.specs.Sums.{sumBelow}
 use Rattle.sums.proofs.SumLaws.{NextSum, sum-none, sum-to}
@@ -36,7 +35,7 @@ next c =
     rows-next byteMost (s .p) (s .a .now) (s .q) (s .b .now)
     (λ i. omega (arith, k .before .shared-slice-known .given i))
     (λ i. omega (arith, k .shared-slice-known2 .given i))
-    (omega arith) (pair _ _ _ _ (k .before .before .pre) .first) (l .loop .y) (l .loop .total) (c .blocks-difference .result) (omega arith) (l .loop .inv .2) (c .blocks-difference .ensures)
+    (omega arith) (k .before .before .pre) (l .loop .y) (l .loop .total) (c .blocks-difference .result) (omega arith) (l .loop .inv .2) (c .blocks-difference .ensures)
 
 add-total : tie.Need-add-total Inv-loop μ-loop
 add-total c = omega (arith, next c .1)

@@ -1,15 +1,14 @@
 -- `importance::importance` meets its contract: a refusal is handed on, and else the total is divided by the number of blocks. Assumes nothing.
 use mathlib.Core.Path.{_≡_, sym, ap, _∙_}
 use Prim.Native.Nat.{ℕ}
-use native.Mathlib.Omega.{arith}
 use borrow.Author.Needs.{needs}
 use lib.ListN.{length}
 use Rattle.answer.proofs.Laws.{answer-given, answer-refused}
 use Rattle.plane.specs.Blocks.{blockCount}
 use Rattle.plane.specs.Planes.{sizesFault}
-use Rattle.plane.proofs.BlockLaws.{count-most}
-use Rattle.plane.proofs.PlaneLaws.{measured, pair}
+use Rattle.plane.proofs.SampleLaws.{measured}
 use Rattle.sums.specs.Quotient.{quotientOf}
+use Rattle.importance.proofs.BlockSums.{count-fits}
 use Rattle.importance.proofs.importance.Statement.{statement}
 use Rattle.importance.proofs.importance.Tie as tie
 
@@ -23,16 +22,13 @@ returns c = answer-refused _ _ _ (c .before .pair-fault .ensures) (c .if1 .taken
 sizes : (c : tie.Else1)
     → let s = c .before .before .before .before .args in
     sizesFault (s .p) (length (s .a .now)) (s .q) (length (s .b .now)) ≡ 0
-sizes c = measured _ _ _ _ _ (sym (c .before .pair-fault .ensures) ∙ c .if1 .left)
+sizes c = measured _ _ _ _ _ _ (sym (c .before .pair-fault .ensures) ∙ c .if1 .left)
 
 all-differences-requires : tie.Need-all-differences-requires
 all-differences-requires c κs = sizes c
 
 mul-count : tie.Need-mul-count
-mul-count c =
-    let d = c .before .before .before in
-    let p = d .before .before .before .before .args .p in
-    record { fits = omega (arith, count-most p _ (pair _ _ _ _ (sizes d) .first)) }
+mul-count c = record { fits = count-fits _ _ _ _ (sizes (c .before .before .before)) }
 
 quotient-requires : tie.Need-quotient-requires
 quotient-requires c κs = search needs

@@ -2,7 +2,7 @@
 use mathlib.Core.Path.{sym, _∙_}
 use borrow.Author.Needs.{needs}
 use Rattle.answer.proofs.Laws.{answer-given, answer-refused}
-use Rattle.plane.proofs.PlaneLaws.{measured}
+use Rattle.plane.proofs.SampleLaws.{measured}
 use Rattle.importance.proofs.importance_total.Statement.{statement}
 use Rattle.importance.proofs.importance_total.Tie as tie
 
@@ -13,7 +13,7 @@ returns : tie.Need-returns
 returns c = answer-refused _ _ _ (c .before .pair-fault .ensures) (c .if1 .taken)
 
 all-differences-requires : tie.Need-all-differences-requires
-all-differences-requires c κs = measured _ _ _ _ _ (sym (c .before .pair-fault .ensures) ∙ c .if1 .left)
+all-differences-requires c κs = measured _ _ _ _ _ _ (sym (c .before .pair-fault .ensures) ∙ c .if1 .left)
 
 returns-2 : tie.Need-returns-2
 returns-2 c =

@@ -1,20 +1,17 @@
 -- `importance::sum_8x8_block` meets its contract. After j turns the sum is that of the first j rows, each a part of the samples. Assumes nothing.
-use mathlib.Core.Path.{_≡_, _∙_}
-use Prim.Native.Nat.{_+_, _*_, _^_, _≤_, _-_}
+use Prim.Native.Nat.{_^_, _-_}
 use native.Mathlib.Omega.{arith}
 use borrow.Author.Needs.{needs}
-use lib.ListN.{length, length-take, length-drop}
+use lib.ListN.{length-take, length-drop}
 use Rattle.plane.specs.Blocks.{blockSide}
-use Rattle.plane.specs.Needs.{rowFrom}
-use Rattle.plane.proofs.SquareLaws.{part-sum, square-next}
 use Rattle.sums.specs.Needs.{byteMost}
-use Rattle.sums.specs.Sums.{sumBelow}
-use Rattle.sums.proofs.SumLaws.{NextSum, sum-none, sum-to}
+use Rattle.sums.proofs.SumLaws.{sum-none, sum-to}
+use Rattle.importance.proofs.BlockSums.{SquareSum, RowIn, SquareTurn, square-turn}
 use Rattle.importance.proofs.sum_8x8_block.Statement.{statement}
 use Rattle.importance.proofs.sum_8x8_block.Tie as tie
 
 abbrev Inv-loop : tie.InvT-loop
-Inv-loop s start stride sum₀ j₀ sum j = (j ≤ blockSide) × (sum ≡ sumBelow j (rowFrom blockSide s start stride))
+Inv-loop s start stride sum₀ j₀ sum j = SquareSum s start stride sum j
 
 abbrev μ-loop : tie.MeasureT-loop
 μ-loop s start stride sum₀ j₀ sum j = blockSide - j
@@ -22,10 +19,7 @@ abbrev μ-loop : tie.MeasureT-loop
 loop-holds : tie.Need-loop-holds Inv-loop μ-loop
 loop-holds c = (search needs, sum-none _)
 
--- row j lies within the samples
-inside : (c : tie.In-loop Inv-loop μ-loop)
-    → let s = c .before .before .before .args in
-    s .start + c .before .loop .j * s .stride + blockSide ≤ length (s .s .now)
+inside : (c : tie.In-loop Inv-loop μ-loop) → let s = c .before .before .before .args in RowIn (s .s .now) (s .start) (s .stride) (c .before .loop .j)
 inside c = c .before .before .before .pre (c .before .loop .j) (omega arith)
 
 mul-i : tie.Need-mul-i Inv-loop μ-loop
@@ -46,19 +40,18 @@ part-sum-row-end c = search needs
 sum-row-requires : tie.Need-sum-row-requires Inv-loop μ-loop
 sum-row-requires c κs = simp (length-take, length-drop) (omega (arith, inside (c .before)))
 
-next : (c : tie.After-sum-row Inv-loop μ-loop)
+turn : (c : tie.After-sum-row Inv-loop μ-loop)
     → let l = c .before .before .before in
     let s = l .before .before .args in
-    NextSum (2 ^ 16) (l .loop .j) (l .loop .sum) (c .sum-row .result) (rowFrom blockSide (s .s .now) (s .start) (s .stride))
-next c =
+    SquareTurn (2 ^ 16) (s .s .now) (s .start) (s .stride) (l .loop .sum) (c .sum-row .result) (l .loop .j)
+turn c =
     let l = c .before .before .before in
     let s = l .before .before .args in
-    square-next byteMost blockSide (s .s .now) (λ i. omega (arith, l .before .shared-slice-known .given i)) (2 ^ 16) (s .start) (s .stride) (omega arith)
-    (l .loop .j) (l .loop .sum) (c .sum-row .result) (omega arith) (l .loop .inv .1)
-    (c .sum-row .ensures ∙ part-sum (s .s .now) (s .start + l .loop .j * s .stride) blockSide (inside (c .before .before)))
+    square-turn byteMost (2 ^ 16) (omega arith) (s .s .now) (λ i. omega (arith, l .before .shared-slice-known .given i)) (s .start) (s .stride)
+    (l .loop .sum) (c .sum-row .result) (l .loop .j) (l .loop .inv) (omega arith) (inside (c .before .before)) (c .sum-row .ensures)
 
 add-sum : tie.Need-add-sum Inv-loop μ-loop
-add-sum c = record { fits = next c .1 }
+add-sum c = record { fits = turn c .1 }
 
 add-j : tie.Need-add-j Inv-loop μ-loop
 add-j c = search needs
@@ -67,7 +60,7 @@ loop-less : tie.Need-loop-less Inv-loop μ-loop
 loop-less c = search needs
 
 loop-again : tie.Need-loop-again Inv-loop μ-loop
-loop-again c = (search needs, next c .0)
+loop-again c = turn c .0
 
 returns : tie.Need-returns Inv-loop μ-loop
 returns c = sum-to _ _ _ _ (c .before .loop .inv .1) (omega arith)

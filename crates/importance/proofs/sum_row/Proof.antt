@@ -1,19 +1,16 @@
 -- `importance::sum_row` meets its contract. After i turns the sum is that of the first i samples. Assumes nothing.
-use mathlib.Core.Path.{_≡_, refl}
-use Prim.Native.Nat.{ℕ, _^_, _≤_, _-_}
+use Prim.Native.Nat.{_^_, _-_}
 use native.Mathlib.Omega.{arith}
 use borrow.Author.Needs.{needs}
-use lib.ListN.{getD}
 use Rattle.plane.specs.Blocks.{blockSide}
-use Rattle.plane.proofs.SquareLaws.{row-next}
 use Rattle.sums.specs.Needs.{byteMost}
-use Rattle.sums.specs.Sums.{sumBelow}
-use Rattle.sums.proofs.SumLaws.{NextSum, sum-none, sum-to}
+use Rattle.sums.proofs.SumLaws.{sum-none, sum-to}
+use Rattle.importance.proofs.BlockSums.{RowSum, RowTurn, row-turn}
 use Rattle.importance.proofs.sum_row.Statement.{statement}
 use Rattle.importance.proofs.sum_row.Tie as tie
 
 abbrev Inv-loop : tie.InvT-loop
-Inv-loop s sum₀ i₀ sum i = (i ≤ blockSide) × (sum ≡ sumBelow i (λ (n : ℕ). getD s n 0))
+Inv-loop s sum₀ i₀ sum i = RowSum s sum i
 
 abbrev μ-loop : tie.MeasureT-loop
 μ-loop s sum₀ i₀ sum i = blockSide - i
@@ -27,16 +24,13 @@ shared-slice-read-sum c = omega arith
 cast-sum : tie.Need-cast-sum Inv-loop μ-loop
 cast-sum c = omega (arith, c .shared-slice-known .given (c .before .before .loop .i))
 
-next : (c : tie.After-shared-slice-known Inv-loop μ-loop)
-    → let l = c .before .before in
-    let s = l .before .args .s .now in
-    NextSum (2 ^ 16) (l .loop .i) (l .loop .sum) (getD s (l .loop .i) 0) (λ (n : ℕ). getD s n 0)
-next c =
+turn : (c : tie.After-shared-slice-known Inv-loop μ-loop) → let l = c .before .before in RowTurn (2 ^ 16) (l .before .args .s .now) (l .loop .sum) (l .loop .i)
+turn c =
     let l = c .before .before in
-    row-next byteMost blockSide (l .before .args .s .now) (λ i. omega (arith, c .shared-slice-known .given i)) (2 ^ 16) (λ (n : ℕ). n) (omega arith) (l .loop .i) (l .loop .sum) _ (omega arith) (l .loop .inv .1) refl
+    row-turn byteMost (2 ^ 16) (omega arith) (l .before .args .s .now) (λ i. omega (arith, c .shared-slice-known .given i)) (l .loop .sum) (l .loop .i) (l .loop .inv) (omega arith)
 
 add-sum : tie.Need-add-sum Inv-loop μ-loop
-add-sum c = record { fits = next c .1 }
+add-sum c = record { fits = turn c .1 }
 
 add-i : tie.Need-add-i Inv-loop μ-loop
 add-i c = search needs
@@ -45,7 +39,7 @@ loop-less : tie.Need-loop-less Inv-loop μ-loop
 loop-less c = search needs
 
 loop-again : tie.Need-loop-again Inv-loop μ-loop
-loop-again c = (search needs, next c .0)
+loop-again c = turn c .0
 
 returns : tie.Need-returns Inv-loop μ-loop
 returns c = sum-to _ _ _ _ (c .before .loop .inv .1) (omega arith)

@@ -1,0 +1,127 @@
+// Importance of planes with samples of 16 bits. Each function is the one of its name beside it, over the other word; what is new is the
+// look at the samples, one row of blocks at a time, so that each plane is gone through once.
+use answer::Real;
+use answer::Whole;
+use plane::BLOCK_SIDE;
+use plane::Plane;
+ghost use mathlib.Core.Bool.{_||_};
+ghost use mathlib.Core.Path.{_≡_};
+ghost use Prim.Native.Nat.{ℕ, _+_, _*_, _≤_, _<_};
+ghost use lib.ListN.{length, getD};
+ghost use Rattle.answer.specs.Answer.{answered, wholeAnswer, realAnswer};
+ghost use Rattle.answer.specs.Refusal.{refusal};
+ghost use Rattle.plane.specs.Blocks.{blockSide, blocksDown};
+ghost use Rattle.plane.specs.Needs.{squareFrom};
+ghost use Rattle.plane.specs.Planes.{deep, sizesFault, rowsLarge, tooLarge};
+ghost use Rattle.sums.specs.Needs.{wordMost};
+ghost use Rattle.sums.specs.Sums.{sumBelow, apart};
+ghost use Rattle.importance.specs.Importance.{mean, blocksDifference, importanceTotal, totalOf, importanceOf};
+
+// The sum of a part's first eight samples. The sums of a block are kept in 32 bits: 64 words of any value fit there.
+fn sum_row(s: &[u16]) -> u32
+    requires { ⌜ blockSide ≤ length (now s) ⌝ }
+    ensures { λ r. ⌜ r ≡ sumBelow blockSide (λ (i : ℕ). getD (now (s .entry)) i 0) ⌝ }
+{
+    let mut sum: u32 = 0;
+    for i in 0..BLOCK_SIDE {
+        sum += s[i] as u32;
+    }
+    sum
+}
+
+// The sum of the block that starts at a place.
+fn sum_8x8_block(s: &[u16], start: usize, stride: usize) -> u32
+    requires { ⌜ ((j : ℕ) → j < blockSide → start + j * stride + blockSide ≤ length (now s)) ⌝ }
+    ensures { λ r. ⌜ r ≡ squareFrom blockSide (now (s .entry)) start stride ⌝ }
+{
+    let mut sum: u32 = 0;
+    for j in 0..BLOCK_SIDE {
+        let i = start + j * stride;
+        sum += sum_row(&s[i..]);
+    }
+    sum
+}
+
+// How far two rounded means lie apart. Each is rounded by itself.
+fn means_apart(org: u32, other: u32) -> u32
+    requires { ⌜ (org ≤ 64 * wordMost) × (other ≤ 64 * wordMost) ⌝ }
+    ensures { λ r. ⌜ r ≡ apart (mean org) (mean other) ⌝ }
+{
+    let m = (org + 32) / 64;
+    let n = (other + 32) / 64;
+    if m < n { n - m } else { m - n }
+}
+
+// The differences of row y of blocks.
+fn blocks_difference(p: Plane, a: &[u16], q: Plane, b: &[u16], y: usize) -> u64
+    requires { ⌜ sizesFault p (length (now a)) q (length (now b)) ≡ 0 ⌝ }
+    requires { ⌜ y < blocksDown p ⌝ }
+    ensures { λ r. ⌜ r ≡ blocksDifference p (now (a .entry)) q (now (b .entry)) y ⌝ }
+{
+    let step = p.stride;
+    let step2 = q.stride;
+    let start = p.block_row(a.len(), y);
+    let start2 = q.block_row(b.len(), y);
+    let mut total: u64 = 0;
+    for x in 0..p.width / BLOCK_SIDE {
+        let org = sum_8x8_block(a, start + x * BLOCK_SIDE, step);
+        let other = sum_8x8_block(b, start2 + x * BLOCK_SIDE, step2);
+        total += means_apart(org, other) as u64;
+    }
+    total
+}
+
+// Whether one of the rows from one up to another, of either plane, has a sample that reaches 2 to the depth.
+fn any_large(depth: u64, p: Plane, a: &[u16], q: Plane, b: &[u16], from: usize, to: usize) -> bool
+    ensures { λ r. ⌜ r ≡ rowsLarge depth p (now (a .entry)) from to || rowsLarge depth q (now (b .entry)) from to ⌝ }
+{
+    plane::deep::rows_large(depth, p, a, from, to) | plane::deep::rows_large(depth, q, b, from, to)
+}
+
+// The differences of all whole blocks of two planes of one size, or 16 where a sample is too large. The samples of a row of
+// blocks are looked at just before they are summed; those below the last whole block come last.
+fn all_differences(depth: u64, p: Plane, a: &[u16], q: Plane, b: &[u16]) -> Whole
+    requires { ⌜ sizesFault p (length (now a)) q (length (now b)) ≡ 0 ⌝ }
+    ensures { λ r. ⌜ wholeAnswer r ≡ answered (refusal 16 (tooLarge depth p (now (a .entry)) || tooLarge depth q (now (b .entry)))) (importanceTotal p (now (a .entry)) q (now (b .entry))) ⌝ }
+{
+    let height = p.height;
+    let mut total: u64 = 0;
+    for y in 0..height / BLOCK_SIDE {
+        let from = y * BLOCK_SIDE;
+        if any_large(depth, p, a, q, b, from, from + BLOCK_SIDE) {
+            return Whole::Refused(16);
+        }
+        total += blocks_difference(p, a, q, b, y);
+    }
+    let done = (height / BLOCK_SIDE) * BLOCK_SIDE;
+    if any_large(depth, p, a, q, b, done, height) {
+        return Whole::Refused(16);
+    }
+    Whole::Number(total)
+}
+
+// The importance total of two planes, before the division.
+pub fn importance_total(depth: u64, p: Plane, a: &[u16], q: Plane, b: &[u16]) -> Whole
+    ensures { λ r. ⌜ wholeAnswer r ≡ totalOf deep depth p (now (a .entry)) q (now (b .entry)) ⌝ }
+{
+    let fault = plane::deep::shapes_fault(depth, p, a.len(), q, b.len());
+    if fault != 0 {
+        return Whole::Refused(fault);
+    }
+    all_differences(depth, p, a, q, b)
+}
+
+// The importance of two planes: the total over the number of blocks, and with no block a NaN.
+pub fn importance(depth: u64, p: Plane, a: &[u16], q: Plane, b: &[u16]) -> Real
+    ensures { λ r. ⌜ realAnswer r ≡ importanceOf deep depth p (now (a .entry)) q (now (b .entry)) ⌝ }
+{
+    let fault = plane::deep::shapes_fault(depth, p, a.len(), q, b.len());
+    if fault != 0 {
+        return Real::Refused(fault);
+    }
+    let Whole::Number(total) = all_differences(depth, p, a, q, b) else {
+        return Real::Refused(16);
+    };
+    let count = (p.height / BLOCK_SIDE) * (p.width / BLOCK_SIDE);
+    Real::Number(sums::quotient(total, count as u64))
+}
