@@ -6,7 +6,7 @@ use Prim.Native.Nat.{ℕ, _+_, _-_, _*_, _/_, _%_, _≤_, _<_}
 use native.Mathlib.Decide.{decLt}
 use native.Mathlib.Nat.{mul-le-mul-right, suc-mul}
 use native.Mathlib.Omega.{arith}
-use borrow.Author.Tests.{lt-ltb, le-ltb, ltb-false}
+use borrow.Author.Tests.{lt-ltb, le-ltb, ltb-false, eqb-true, ne-eqb}
 use lib.Arith.{digits-div, digits-mod}
 use lib.Dec.{ltb}
 use lib.ListN.{length, getD, take, drop, replicate, getD-replicate, List·getD-eq-default}
@@ -18,18 +18,20 @@ use Rattle.answer.specs.declared.Whole.{Whole}
 use Rattle.answer.specs.declared.Whole.the-variants as whole
 use Rattle.plane.specs.Blocks.{blockSide, blocksAcross, blocksDown, blockCount, blockSample, blocksStart, blockRow}
 use Rattle.plane.specs.Needs.{blockStart}
-use Rattle.plane.specs.Planes.{maxSide, sizesFault, pairFault}
+use Rattle.plane.specs.Planes.{Word, byte, deep, suits, maxSide, sizesFault, shapesFault, sampleFault, tooLarge}
 use Rattle.plane.specs.declared.Plane.{Plane}
 use Rattle.plane.proofs.BlockLaws.{block-in, block-place, count-most, row-starts}
-use Rattle.plane.proofs.PlaneLaws.{Pair, pair, measured, row-in}
+use Rattle.plane.proofs.PlaneLaws.{Pair, pair, row-in}
+use Rattle.plane.proofs.SampleLaws.{suited, by-shapes, bytes-pass, sample-fault-is}
 use Rattle.satd.specs.Satd.{blockSize, satdOf}
 use Rattle.satd.proofs.SatdLaws.{satd-given, satd-most}
+use Rattle.sums.specs.Needs.{byteMost}
 use Rattle.sums.specs.Table.{table}
 use Rattle.sums.specs.Written.{written}
 use Rattle.sums.proofs.TableLaws.{length-table, table-at, table-ext}
 use Rattle.sums.proofs.WrittenLaws.{written-value}
 use Rattle.sums.specs.Places.{inRun}
-use Rattle.intra.specs.Costs.{blockOf, prediction, costAt, intraFault}
+use Rattle.intra.specs.Costs.{blockOf, prediction, costAt, roomFault, intraFault}
 use Rattle.intra.specs.Needs.{SquareIn, squareAt, squareOf, squareCost}
 use Rattle.sums.proofs.PlaceLaws.{run-holds}
 use Rattle.sums.proofs.Wrote.{Wrote, wrote-all}
@@ -160,28 +162,57 @@ module _ (p : Plane) (n : ℕ) (w : Plane) (m room y start start2 : ℕ) where
 
 -- ---- the refusals in order, and what a call that is not refused keeps to
 
-module _ (depth : ℕ) (p : Plane) (s : List ℕ) (w : Plane) (work : List ℕ) (room : ℕ) where
-  pub planes-refused : (r : ℕ) → r ≡ pairFault depth p s w work → (r ≡ 0 → ⊥) → r ≡ intraFault depth p s w work room
-  unfolding intraFault
-  planes-refused r e h = or-given r _ _ e h
+module _ (word : Word) (depth : ℕ) (p : Plane) (s : List ℕ) (w : Plane) (work : List ℕ) (room : ℕ) where
+  pub planes-refused : (r : ℕ) → r ≡ shapesFault word depth p (length s) w (length work) → (r ≡ 0 → ⊥) → r ≡ intraFault word depth p s w work room
+  unfolding intraFault roomFault
+  planes-refused r e h = or-given r _ _ (or-given r _ _ e h) h
 
-  pub no-room : 0 ≡ pairFault depth p s w work → room < blockCount p → 4 ≡ intraFault depth p s w work room
-  unfolding intraFault
-  no-room e h = or-later 4 _ _ e (test-given 4 _ (lt-ltb room (blockCount p) h))
+  pub no-room : 0 ≡ shapesFault word depth p (length s) w (length work) → room < blockCount p → 4 ≡ intraFault word depth p s w work room
+  unfolding intraFault roomFault
+  no-room e h = or-given 4 _ _ (or-later 4 _ _ e (test-given 4 _ (lt-ltb room (blockCount p) h))) (λ d. omega arith)
 
-  pub room-enough : 0 ≡ pairFault depth p s w work → blockCount p ≤ room → 0 ≡ intraFault depth p s w work room
-  unfolding intraFault
-  room-enough e h = or-later 0 _ _ e (test-passed 4 _ (le-ltb room (blockCount p) h))
+  -- with room enough the samples decide
+  pub room-enough : 0 ≡ shapesFault word depth p (length s) w (length work) → blockCount p ≤ room
+      → (r : ℕ) → r ≡ refusal 16 (tooLarge depth p s) → r ≡ intraFault word depth p s w work room
+  unfolding intraFault roomFault
+  room-enough e h r d = or-later r _ _ (or-later 0 _ _ e (test-passed 4 _ (le-ltb room (blockCount p) h))) d
 
-  pub fine : intraFault depth p s w work room ≡ 0 → (sizesFault p (length s) w (length work) ≡ 0) × (blockCount p ≤ room)
-  unfolding intraFault
+  pub samples-decide : 0 ≡ shapesFault word depth p (length s) w (length work) → blockCount p ≤ room
+      → (r : ℕ) → r ≡ sampleFault word depth p s → r ≡ intraFault word depth p s w work room
+  unfolding sizesFault
+  samples-decide e h r d =
+      let t = by-shapes word depth p (length s) w (length work) (sym e) in
+      room-enough e h r (sample-fault-is word depth p s (t .0) (or-none _ _ (t .1) .0) r d)
+
+  pub fine : intraFault word depth p s w work room ≡ 0 → (sizesFault p (length s) w (length work) ≡ 0) × (blockCount p ≤ room)
+  unfolding intraFault roomFault
   fine e =
-      let t = or-none (pairFault depth p s w work) (refusal 4 (ltb room (blockCount p))) e in
-      (measured depth p s w work (t .0), ltb-false room (blockCount p) (passed 3 (ltb room (blockCount p)) (t .1)))
+      let t = or-none (roomFault word depth p (length s) w (length work) room) (refusal 16 (tooLarge depth p s)) e in
+      let u = or-none (shapesFault word depth p (length s) w (length work)) (refusal 4 (ltb room (blockCount p))) (t .0) in
+      (by-shapes word depth p (length s) w (length work) (u .0) .1, ltb-false room (blockCount p) (passed 3 (ltb room (blockCount p)) (u .1)))
+
+  -- what the depth is, so that the flat sample is its own
+  pub suits-word : intraFault word depth p s w work room ≡ 0 → suits word depth ≡ true
+  unfolding intraFault roomFault
+  suits-word e =
+      let t = or-none (roomFault word depth p (length s) w (length work) room) (refusal 16 (tooLarge depth p s)) e in
+      let u = or-none (shapesFault word depth p (length s) w (length work)) (refusal 4 (ltb room (blockCount p))) (t .0) in
+      suited word depth (by-shapes word depth p (length s) w (length work) (u .0) .0)
 
   -- the block count of planes that are not refused, and so the answer
-  pub count-fits : pairFault depth p s w work ≡ 0 → blockCount p ≤ maxSide * maxSide
-  count-fits e = count-most p (length s) (pair p (length s) w (length work) (measured depth p s w work e) .first)
+  pub count-fits : shapesFault word depth p (length s) w (length work) ≡ 0 → blockCount p ≤ maxSide * maxSide
+  count-fits e = count-most p (length s) (pair p (length s) w (length work) (by-shapes word depth p (length s) w (length work) e .1) .first)
 
-  pub blocks-most : intraFault depth p s w work room ≡ 0 → blockCount p ≤ maxSide * maxSide
+  pub blocks-most : intraFault word depth p s w work room ≡ 0 → blockCount p ≤ maxSide * maxSide
   blocks-most e = count-most p (length s) (pair p (length s) w (length work) (fine e .0) .first)
+
+-- a depth of 16 bits that is not 10 is 12
+pub twelve : (depth : ℕ) → suits deep depth ≡ true → (depth ≡ 10 → ⊥) → depth ≡ 12
+twelve depth e h = eqb-true depth 12 (rw (ne-eqb depth 10 h) at e)
+
+-- no byte is looked at: with room enough nothing is refused
+pub bytes-enough : (depth : ℕ) (p : Plane) (s : List ℕ) (w : Plane) (work : List ℕ) (room : ℕ) → ((i : ℕ) → getD s i 0 ≤ byteMost)
+    → 0 ≡ shapesFault byte depth p (length s) w (length work) → blockCount p ≤ room → 0 ≡ intraFault byte depth p s w work room
+bytes-enough depth p s w work room l e h =
+    let depth-is = suited byte depth (by-shapes byte depth p (length s) w (length work) (sym e) .0) in
+    room-enough byte depth p s w work room e h 0 (test-passed 16 (tooLarge depth p s) (bytes-pass depth p s depth-is l))

@@ -9,11 +9,20 @@ use Rattle.answer.specs.declared.Whole.{Whole}
 use Rattle.answer.proofs.Laws.{whole-only, real-only}
 use Rattle.intra.proofs.estimate_intra_costs.Kinds as costs-kinds
 use Rattle.intra.proofs.estimate_intra_costs.Reads as costs-reads
+use Rattle.intra.proofs.deep.estimate_intra_costs.Kinds as deep-kinds
+use Rattle.intra.proofs.deep.estimate_intra_costs.Reads as deep-reads
 use Rattle.intra.proofs.standard.threshold.Kinds as threshold-kinds
 use Rattle.intra.proofs.standard.threshold.Reads as threshold-reads
 
 pub estimate-intra-costs-unique : OneOutcome 3 costs-kinds.ps costs-kinds.r (Whole × List ℕ × List ℕ) (λ κs r e. (r, now (e .1 .1 .1 .1 .0), now (e .1 .1 .1 .1 .1 .0))) costs-reads.Post
 estimate-intra-costs-unique κs a r r′ e e′ p q =
+    let answers = whole-only r r′ (p .0 ∙ sym (q .0)) in
+    let works : now (e .1 .1 .1 .1 .0) ≡ now (e′ .1 .1 .1 .1 .0) = p .1 .0 ∙ sym (q .1 .0) in
+    let lists : now (e .1 .1 .1 .1 .1 .0) ≡ now (e′ .1 .1 .1 .1 .1 .0) = p .1 .1 ∙ sym (q .1 .1) in
+    rw (answers, works, lists)
+
+pub deep-intra-costs-unique : OneOutcome 3 deep-kinds.ps deep-kinds.r (Whole × List ℕ × List ℕ) (λ κs r e. (r, now (e .1 .1 .1 .1 .0), now (e .1 .1 .1 .1 .1 .0))) deep-reads.Post
+deep-intra-costs-unique κs a r r′ e e′ p q =
     let answers = whole-only r r′ (p .0 ∙ sym (q .0)) in
     let works : now (e .1 .1 .1 .1 .0) ≡ now (e′ .1 .1 .1 .1 .0) = p .1 .0 ∙ sym (q .1 .0) in
     let lists : now (e .1 .1 .1 .1 .1 .0) ≡ now (e′ .1 .1 .1 .1 .1 .0) = p .1 .1 ∙ sym (q .1 .1) in

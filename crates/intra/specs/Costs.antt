@@ -6,7 +6,7 @@ use lib.ListN.{length, replicate}
 use Rattle.answer.specs.Answer.{Answer, answered, lentAfter}
 use Rattle.answer.specs.Refusal.{refusal, _orElse_}
 use Rattle.plane.specs.Blocks.{blockSide, blocksAcross, blockCount, blockSample}
-use Rattle.plane.specs.Planes.{pairFault}
+use Rattle.plane.specs.Planes.{Word, shapesFault, tooLarge}
 use Rattle.plane.specs.declared.Plane.{Plane}
 use Rattle.satd.specs.Satd.{blockSize, satdValue}
 use Rattle.sums.specs.Table.{table}
@@ -34,15 +34,19 @@ abbrev pub costsAfter : ℕ → Plane → List ℕ → List ℕ → List ℕ
 costsAfter flat p s costs = written (λ (k : ℕ). ltb k (blockCount p)) (costAt flat p s) costs
 
 -- 5, the plane's 1 and 2, the work plane's 1 and 2, 3, and 4: "cost list shorter than the block count"
-unfoldable pub intraFault : ℕ → Plane → List ℕ → Plane → List ℕ → ℕ → ℕ
-intraFault depth p s w work room = pairFault depth p s w work orElse refusal 4 (ltb room (blockCount p))
+unfoldable pub roomFault : Word → ℕ → Plane → ℕ → Plane → ℕ → ℕ → ℕ
+roomFault word depth p n w m room = shapesFault word depth p n w m orElse refusal 4 (ltb room (blockCount p))
+
+-- and 16, "tested after 4", the "work plane aside"
+unfoldable pub intraFault : Word → ℕ → Plane → List ℕ → Plane → List ℕ → ℕ → ℕ
+intraFault word depth p s w work room = roomFault word depth p (length s) w (length work) room orElse refusal 16 (tooLarge depth p s)
 
 -- the answer, the number of blocks; and the lent places: where it is refused, as they were
-abbrev pub intraOf : ℕ → Plane → List ℕ → Plane → List ℕ → List ℕ → Answer ℕ
-intraOf depth p s w work costs = answered (intraFault depth p s w work (length costs)) (blockCount p)
+abbrev pub intraOf : Word → ℕ → Plane → List ℕ → Plane → List ℕ → List ℕ → Answer ℕ
+intraOf word depth p s w work costs = answered (intraFault word depth p s w work (length costs)) (blockCount p)
 
-abbrev pub workOf : ℕ → Plane → List ℕ → Plane → List ℕ → List ℕ → List ℕ
-workOf depth p s w work costs = lentAfter (intraFault depth p s w work (length costs)) (workAfter flatSample w work) work
+abbrev pub workOf : Word → ℕ → Plane → List ℕ → Plane → List ℕ → List ℕ → List ℕ
+workOf word depth p s w work costs = lentAfter (intraFault word depth p s w work (length costs)) (workAfter (flatSample depth) w work) work
 
-abbrev pub costsOf : ℕ → Plane → List ℕ → Plane → List ℕ → List ℕ → List ℕ
-costsOf depth p s w work costs = lentAfter (intraFault depth p s w work (length costs)) (costsAfter flatSample p s costs) costs
+abbrev pub costsOf : Word → ℕ → Plane → List ℕ → Plane → List ℕ → List ℕ → List ℕ
+costsOf word depth p s w work costs = lentAfter (intraFault word depth p s w work (length costs)) (costsAfter (flatSample depth) p s costs) costs

@@ -8,7 +8,7 @@ ghost use lib.Dec.{ltb};
 ghost use lib.ListN.{length, getD};
 ghost use Rattle.answer.specs.Answer.{wholeAnswer};
 ghost use Rattle.plane.specs.Blocks.{blockSide, blocksAcross, blocksDown, blockCount, blocksStart};
-ghost use Rattle.plane.specs.Planes.{sizesFault};
+ghost use Rattle.plane.specs.Planes.{byte, sizesFault};
 ghost use Rattle.satd.specs.Satd.{blockSize};
 ghost use Rattle.sums.specs.Places.{inRun};
 ghost use Rattle.sums.specs.Written.{written};
@@ -16,6 +16,7 @@ ghost use Rattle.intra.specs.Fill.{filled, workAfter};
 ghost use Rattle.intra.specs.Costs.{costAt, costsAfter, intraFault, intraOf, workOf, costsOf};
 ghost use Rattle.intra.specs.Needs.{SquareIn, squareOf, squareCost};
 
+pub mod deep;
 pub mod standard;
 
 // The flat prediction of samples of 8 bits.
@@ -115,9 +116,9 @@ fn all_costs(p: Plane, s: &[u8], w: Plane, work: &mut [u8], costs: &mut [u32], f
 
 // The refusal of intra costs, or 0: of the depth and the two planes, and 4 for a list with no room for the costs.
 fn intra_fault(depth: u64, p: Plane, s: &[u8], w: Plane, work: &[u8], room: usize) -> u32
-    ensures { λ r. ⌜ r ≡ intraFault depth p (now (s .entry)) w (now (work .entry)) room ⌝ }
+    ensures { λ r. ⌜ r ≡ intraFault byte depth p (now (s .entry)) w (now (work .entry)) room ⌝ }
 {
-    let fault = plane::pair_fault(depth, p, s, w, work);
+    let fault = plane::shapes_fault(depth, p, s.len(), w, work.len());
     if fault != 0 {
         return fault;
     }
@@ -137,9 +138,9 @@ pub fn estimate_intra_costs(
     work: &mut [u8],
     costs: &mut [u32],
 ) -> Whole
-    ensures { λ r. ⌜ wholeAnswer r ≡ intraOf depth p (now (s .entry)) w (now (work .entry)) (now (costs .entry)) ⌝ }
-    ensures { λ _. ⌜ now (work .exit) ≡ workOf depth p (now (s .entry)) w (now (work .entry)) (now (costs .entry)) ⌝ }
-    ensures { λ _. ⌜ now (costs .exit) ≡ costsOf depth p (now (s .entry)) w (now (work .entry)) (now (costs .entry)) ⌝ }
+    ensures { λ r. ⌜ wholeAnswer r ≡ intraOf byte depth p (now (s .entry)) w (now (work .entry)) (now (costs .entry)) ⌝ }
+    ensures { λ _. ⌜ now (work .exit) ≡ workOf byte depth p (now (s .entry)) w (now (work .entry)) (now (costs .entry)) ⌝ }
+    ensures { λ _. ⌜ now (costs .exit) ≡ costsOf byte depth p (now (s .entry)) w (now (work .entry)) (now (costs .entry)) ⌝ }
 {
     let fault = intra_fault(depth, p, s, w, work, costs.len());
     if fault != 0 {

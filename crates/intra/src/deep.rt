@@ -1,0 +1,163 @@
+// Intra costs of samples in words of 16 bits. Each function is the one of its name beside it, over the other word.
+use answer::Whole;
+use plane::BLOCK_SIDE;
+use plane::Plane;
+ghost use mathlib.Core.Bool.{true};
+ghost use mathlib.Core.Path.{_≡_};
+ghost use Prim.Native.Nat.{ℕ, _*_, _≤_, _<_};
+ghost use lib.Dec.{ltb};
+ghost use lib.ListN.{length, getD};
+ghost use Rattle.answer.specs.Answer.{wholeAnswer};
+ghost use Rattle.plane.specs.Blocks.{blockSide, blocksAcross, blocksDown, blockCount, blocksStart};
+ghost use Rattle.plane.specs.Planes.{deep, suits, sizesFault};
+ghost use Rattle.satd.specs.Satd.{blockSize};
+ghost use Rattle.sums.specs.Places.{inRun};
+ghost use Rattle.sums.specs.Written.{written};
+ghost use Rattle.intra.specs.Fill.{flatSample, filled, workAfter};
+ghost use Rattle.intra.specs.Costs.{costAt, costsAfter, intraFault, intraOf, workOf, costsOf};
+ghost use Rattle.intra.specs.Needs.{SquareIn, squareOf, squareCost};
+
+// The flat prediction of samples of 10 and of 12 bits.
+fn flat_sample(depth: u64) -> u16
+    requires { ⌜ suits deep depth ≡ true ⌝ }
+    ensures { λ r. ⌜ r ≡ flatSample depth ⌝ }
+{
+    if depth == 10 { 512 } else { 2048 }
+}
+
+// Eight flat samples from the start of a part on.
+fn fill_row(part: &mut [u16], flat: u16)
+    requires { ⌜ blockSide ≤ length (now part) ⌝ }
+    ensures { λ _. ⌜ now (part .exit) ≡ written (λ (k : ℕ). ltb k blockSide) (λ (k : ℕ). flat) (now (part .entry)) ⌝ }
+{
+    for x in 0..BLOCK_SIDE {
+        part[x] = flat;
+    }
+}
+
+// The eight rows of a block that starts at a place of the work plane, each from the block's own column onward:
+// `pred_dc_128`.
+fn fill_block(work: &mut [u16], start: usize, stride: usize, flat: u16)
+    requires { ⌜ SquareIn start stride (length (now work)) ⌝ }
+    ensures { λ _. ⌜ now (work .exit) ≡ filled flat start stride blockSide blockSide (now (work .entry)) ⌝ }
+{
+    for y in 0..BLOCK_SIDE {
+        let i = start + y * stride;
+        fill_row(&mut work[i..], flat);
+    }
+}
+
+// Eight samples of one part at the start of another.
+fn copy_row(to: &mut [u16], from: &[u16])
+    requires { ⌜ blockSide ≤ length (now to) ⌝ }
+    requires { ⌜ blockSide ≤ length (now from) ⌝ }
+    ensures { λ _. ⌜ now (to .exit) ≡ written (λ (k : ℕ). ltb k blockSide) (λ (k : ℕ). getD (now (from .entry)) k 0) (now (to .entry)) ⌝ }
+{
+    for x in 0..BLOCK_SIDE {
+        to[x] = from[x];
+    }
+}
+
+// The samples of the block that starts at a place, row by row.
+fn load_block(block: &mut [u16], s: &[u16], start: usize, stride: usize)
+    requires { ⌜ length (now block) ≡ blockSize ⌝ }
+    requires { ⌜ SquareIn start stride (length (now s)) ⌝ }
+    ensures { λ _. ⌜ now (block .exit) ≡ squareOf (now (s .entry)) start stride ⌝ }
+{
+    for j in 0..BLOCK_SIDE {
+        let at = j * BLOCK_SIDE;
+        let i = start + j * stride;
+        copy_row(&mut block[at..], &s[i..]);
+    }
+}
+
+// The SATD of the block that starts at a place against the flat prediction.
+fn block_cost(s: &[u16], start: usize, stride: usize, flat: u16) -> u32
+    requires { ⌜ SquareIn start stride (length (now s)) ⌝ }
+    ensures { λ r. ⌜ r ≡ squareCost flat (now (s .entry)) start stride ⌝ }
+{
+    let mut block = [0u16; 64];
+    load_block(&mut block[..], s, start, stride);
+    let prediction = [flat; 64];
+    let Whole::Number(cost) = satd::deep::satd8x8(&block[..], &prediction[..]) else {
+        return 0;
+    };
+    cost as u32
+}
+
+// Row y of blocks: each block of the work plane is filled, and its cost goes to its place in the list.
+fn costs_row(
+    p: Plane,
+    s: &[u16],
+    w: Plane,
+    work: &mut [u16],
+    costs: &mut [u32],
+    y: usize,
+    flat: u16,
+)
+    requires { ⌜ sizesFault p (length (now s)) w (length (now work)) ≡ 0 ⌝ }
+    requires { ⌜ blockCount p ≤ length (now costs) ⌝ }
+    requires { ⌜ y < blocksDown p ⌝ }
+    ensures { λ _. ⌜ now (work .exit) ≡ filled flat (blocksStart w y) (w .stride) blockSide (blocksAcross w * blockSide) (now (work .entry)) ⌝ }
+    ensures { λ _. ⌜ now (costs .exit) ≡ written (inRun (y * blocksAcross p) (blocksAcross p)) (costAt flat p (now (s .entry))) (now (costs .entry)) ⌝ }
+{
+    let stride = p.stride;
+    let stride2 = w.stride;
+    let across = p.width / BLOCK_SIDE;
+    let start = p.block_row(s.len(), y);
+    let start2 = w.block_row(work.len(), y);
+    let first = y * across;
+    for x in 0..across {
+        fill_block(work, start2 + x * BLOCK_SIDE, stride2, flat);
+        costs[first + x] = block_cost(s, start + x * BLOCK_SIDE, stride, flat);
+    }
+}
+
+// All whole blocks of a plane and a work plane that are not refused.
+fn all_costs(p: Plane, s: &[u16], w: Plane, work: &mut [u16], costs: &mut [u32], flat: u16)
+    requires { ⌜ sizesFault p (length (now s)) w (length (now work)) ≡ 0 ⌝ }
+    requires { ⌜ blockCount p ≤ length (now costs) ⌝ }
+    ensures { λ _. ⌜ now (work .exit) ≡ workAfter flat w (now (work .entry)) ⌝ }
+    ensures { λ _. ⌜ now (costs .exit) ≡ costsAfter flat p (now (s .entry)) (now (costs .entry)) ⌝ }
+{
+    for y in 0..p.height / BLOCK_SIDE {
+        costs_row(p, s, w, work, costs, y, flat);
+    }
+}
+
+// The refusal of intra costs, or 0: of the depth and the two planes' shapes, 4 for a list with no room for the costs, and 16 for
+// a sample that is too large. The work plane's samples are not looked at.
+fn intra_fault(depth: u64, p: Plane, s: &[u16], w: Plane, work: &[u16], room: usize) -> u32
+    ensures { λ r. ⌜ r ≡ intraFault deep depth p (now (s .entry)) w (now (work .entry)) room ⌝ }
+{
+    let fault = plane::deep::shapes_fault(depth, p, s.len(), w, work.len());
+    if fault != 0 {
+        return fault;
+    }
+    if room < (p.height / BLOCK_SIDE) * (p.width / BLOCK_SIDE) {
+        return 4;
+    }
+    plane::deep::sample_fault(depth, p, s)
+}
+
+// The intra costs of a plane: the number of its whole blocks. Each block of the lent work plane is filled with the
+// prediction, and each block's cost goes to the lent list, in row order. A refused call writes nothing.
+pub fn estimate_intra_costs(
+    depth: u64,
+    p: Plane,
+    s: &[u16],
+    w: Plane,
+    work: &mut [u16],
+    costs: &mut [u32],
+) -> Whole
+    ensures { λ r. ⌜ wholeAnswer r ≡ intraOf deep depth p (now (s .entry)) w (now (work .entry)) (now (costs .entry)) ⌝ }
+    ensures { λ _. ⌜ now (work .exit) ≡ workOf deep depth p (now (s .entry)) w (now (work .entry)) (now (costs .entry)) ⌝ }
+    ensures { λ _. ⌜ now (costs .exit) ≡ costsOf deep depth p (now (s .entry)) w (now (work .entry)) (now (costs .entry)) ⌝ }
+{
+    let fault = intra_fault(depth, p, s, w, work, costs.len());
+    if fault != 0 {
+        return Whole::Refused(fault);
+    }
+    all_costs(p, s, w, work, costs, flat_sample(depth));
+    Whole::Number(((p.height / BLOCK_SIDE) * (p.width / BLOCK_SIDE)) as u64)
+}
