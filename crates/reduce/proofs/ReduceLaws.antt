@@ -1,27 +1,31 @@
--- The factors, and the sums of squares by pairs of columns, over the largest sample k and any factor. Assumes nothing.
+-- The factors, the refusals, and the sums of squares, also by pairs of columns, over the largest sample k and any factor. Assumes nothing.
 use mathlib.Core.Bool.{Bool, true, false, not, _||_, true≢false}
 use mathlib.Core.List.{List}
 use mathlib.Core.Path.{_≡_, refl, sym, ap, ap₂, subst, _∙_}
-use Prim.Native.Nat.{ℕ, _+_, _-_, _*_, _/_, _≤_, _<_}
+use Prim.Native.Nat.{ℕ, _+_, _-_, _*_, _/_, _^_, _≤_, _<_}
 use native.Mathlib.Nat.{mul-assoc, mul-left-comm, mul-le-mul, mul-le-mul-right, mul-pos, add-mul, zero-mul}
 use native.Mathlib.Omega.{arith}
-use borrow.Author.Tests.{eqb-true, ltb-true}
+use borrow.Author.Tests.{eqb-true, eqb-false, ltb-true}
 use lib.Dec.{eqb, ltb}
 use lib.ListN.{length, getD, take, drop}
-use Rattle.answer.proofs.Laws.{or-none, passed}
+use Rattle.answer.specs.Refusal.{refusal, _orElse_}
+use Rattle.answer.proofs.Laws.{or-none, or-given, or-later, passed}
 use Rattle.plane.specs.Needs.{rowFrom, squareFrom}
-use Rattle.plane.specs.Planes.{planeFault}
+use Rattle.plane.specs.Planes.{Word, byte, planeFault, wordFault, tooLarge, sampleFault}
 use Rattle.plane.specs.declared.Plane.{Plane}
-use Rattle.plane.proofs.SquareLaws.{part-at, square-most}
+use Rattle.plane.proofs.SampleLaws.{bytes-pass, suited, sample-fault-is}
+use Rattle.plane.proofs.SquareLaws.{part-at, square-most, row-next, square-next}
 use Rattle.sums.specs.Means.{meanOf}
+use Rattle.sums.specs.Needs.{byteMost, wordMost}
 use Rattle.sums.specs.Sums.{sumBelow}
 use Rattle.sums.specs.Table.{table}
 use Rattle.sums.specs.Written.{written}
-use Rattle.sums.proofs.SumLaws.{sum-ext, sum-most, sum-more, sum-none, sum-swap, sum-pairs}
+use Rattle.sums.proofs.MeanLaws.{mean-most}
+use Rattle.sums.proofs.SumLaws.{NextSum, sum-ext, sum-most, sum-more, sum-none, sum-swap, sum-pairs}
 use Rattle.sums.proofs.TableLaws.{table-at}
 use Rattle.sums.proofs.WrittenLaws.{written-value}
-use Rattle.reduce.specs.Reduce.{badFactor, notReduced, reduceFault}
-use Rattle.reduce.specs.Needs.{sumCount, pairAt, pairFrom, pairsFrom, groupOf, meanFrom, Half}
+use Rattle.reduce.specs.Reduce.{badFactor, notReduced, sidesFault, reduceFault}
+use Rattle.reduce.specs.Needs.{sumCount, pairAt, pairFrom, pairsFrom, groupOf, meanFrom, Half, sidesBy}
 
 -- ---- factors
 
@@ -51,6 +55,16 @@ factor-small =
     six (λ (f : ℕ). (0 < f) × (f ≤ 32)) (omega arith, omega arith) (omega arith, omega arith) (omega arith, omega arith) (omega arith, omega arith)
     (omega arith, omega arith) (omega arith, omega arith)
 
+-- so a square has 1,024 samples at most
+pub samples-few : (f : ℕ) → f ≤ 32 → f * f ≤ 1024
+samples-few f h = mul-le-mul h h
+
+-- one that is none of the first five is the sixth
+pub factor-last : (f : ℕ) → badFactor f ≡ false → (f ≡ 1 → ⊥) → (f ≡ 2 → ⊥) → (f ≡ 4 → ⊥) → (f ≡ 8 → ⊥) → (f ≡ 16 → ⊥) → f ≡ 32
+factor-last =
+    six (λ (f : ℕ). (f ≡ 1 → ⊥) → (f ≡ 2 → ⊥) → (f ≡ 4 → ⊥) → (f ≡ 8 → ⊥) → (f ≡ 16 → ⊥) → f ≡ 32) (λ a b c d e. absurd (a refl)) (λ a b c d e. absurd (b refl))
+    (λ a b c d e. absurd (c refl)) (λ a b c d e. absurd (d refl)) (λ a b c d e. absurd (e refl)) (λ a b c d e. refl)
+
 -- one above 1 is twice its half, of which a chunk's sums are whole squares
 pub factor-half : (f : ℕ) → badFactor f ≡ false → (f ≡ 1 → ⊥) → (2 * (f / 2) ≡ f) × Half (f / 2)
 factor-half =
@@ -63,18 +77,79 @@ factor-half =
         let same : 2 * h / 2 ≡ h = omega arith in
         (omega arith, subst Half (sym same) (record { some = a; most = b; whole = e }))
 
--- ---- what a reduction that is not refused keeps to
+-- ---- refusals
 
-pub fine : (depth f : ℕ) (p : Plane) (s : List ℕ) (q : Plane) (r : List ℕ) → reduceFault depth f p s q r ≡ 0
-    → (badFactor f ≡ false) × ((planeFault p (length s) ≡ 0) × ((planeFault q (length r) ≡ 0) × (notReduced f p q ≡ false)))
+module _ (word : Word) (depth f : ℕ) (p : Plane) (s : List ℕ) (q : Plane) (r : List ℕ) where
+  by-sides : sidesFault word depth f p (length s) q (length r) ≡ 0
+      → (wordFault word depth ≡ 0) × ((badFactor f ≡ false) × ((planeFault p (length s) ≡ 0) × ((planeFault q (length r) ≡ 0) × (notReduced f p q ≡ false))))
+  unfolding sidesFault
+  by-sides e =
+      let t6 = or-none _ _ e in
+      let t5 = or-none _ _ (t6 .1) in
+      let t1 = or-none _ _ (t5 .1) in
+      let first = or-none _ _ (t1 .1) in
+      let second = or-none _ _ (first .1) in
+      (t5 .0, (passed 5 _ (t6 .0), (first .0, (second .0, passed 2 _ (second .1)))))
+
+  -- what a reduction that is not refused keeps to
+  pub fine : reduceFault word depth f p s q r ≡ 0
+      → (badFactor f ≡ false) × ((planeFault p (length s) ≡ 0) × ((planeFault q (length r) ≡ 0) × (notReduced f p q ≡ false)))
+  unfolding reduceFault
+  fine e = by-sides (or-none _ _ e .0) .1
+
+  -- where the refusal w of the depth was given: one of the sides is the reduction's ..
+  module _ (w : ℕ) (d : w ≡ wordFault word depth) where
+    by-word : (n : ℕ) → n ≡ sidesBy w f p (length s) q (length r) → n ≡ sidesFault word depth f p (length s) q (length r)
+    unfolding sidesFault
+    by-word n e = e ∙ ap (λ (i : ℕ). sidesBy i f p (length s) q (length r)) d
+
+    pub sides-refused : (n : ℕ) → n ≡ sidesBy w f p (length s) q (length r) → (n ≡ 0 → ⊥) → n ≡ reduceFault word depth f p s q r
+    unfolding reduceFault
+    sides-refused n e h = or-given n _ _ (by-word n e) h
+
+    -- .. and where there is none, the samples decide
+    pub samples-decide : 0 ≡ sidesBy w f p (length s) q (length r) → (n : ℕ) → n ≡ sampleFault word depth p s → n ≡ reduceFault word depth f p s q r
+    unfolding reduceFault
+    samples-decide none n e =
+        let t = by-sides (sym (by-word 0 none)) in
+        or-later n _ _ (by-word 0 none) (sample-fault-is word depth p s (t .0) (t .1 .1 .0) n e)
+
+-- with bytes the sides do
+pub sides-decide : (depth f : ℕ) (p : Plane) (s : List ℕ) (q : Plane) (r : List ℕ) → ((i : ℕ) → getD s i 0 ≤ byteMost)
+    → (w : ℕ) → w ≡ wordFault byte depth → (n : ℕ) → n ≡ sidesBy w f p (length s) q (length r) → n ≡ reduceFault byte depth f p s q r
 unfolding reduceFault
-fine depth f p s q r e =
-    let t6 = or-none _ _ e in
-    let t5 = or-none _ _ (t6 .1) in
-    let t1 = or-none _ _ (t5 .1) in
-    let first = or-none _ _ (t1 .1) in
-    let second = or-none _ _ (first .1) in
-    (passed 5 _ (t6 .0), (first .0, (second .0, passed 2 _ (second .1))))
+sides-decide depth f p s q r l w d n e = go (eqb n 0) (eqb-true n 0) (eqb-false n 0)
+  where
+    sides : n ≡ sidesFault byte depth f p (length s) q (length r)
+    sides = by-word byte depth f p s q r w d n e
+
+    go : (t : Bool) → (t ≡ true → n ≡ 0) → (t ≡ false → n ≡ 0 → ⊥) → n ≡ sidesFault byte depth f p (length s) q (length r) orElse refusal 16 (tooLarge depth p s)
+    go true is isn't =
+        let none = sym (is refl) ∙ sides in
+        let t = by-sides byte depth f p s q r (sym none) in
+        or-later n _ _ none (rw (bytes-pass depth p s (suited byte depth (t .0)) l) (is refl))
+    go false is isn't = or-given n _ _ sides (isn't refl)
+
+-- ---- sums of squares of 32 samples at most on each side: 32 bits hold them, of either word
+
+module _ (k n : ℕ) (s : List ℕ) (l : (i : ℕ) → getD s i 0 ≤ k) (word : k ≤ wordMost) (few : n ≤ 32) where
+  row-room : n * k ≤ 32 * wordMost
+  row-room = mul-le-mul few word
+
+  -- a turn of the sum of a row, and of a square
+  pub row-turn : (at i sum : ℕ) → i < n → sum ≡ sumBelow i (λ (m : ℕ). getD s (at + m) 0) → NextSum (2 ^ 32) i sum (getD s (at + i) 0) (λ (m : ℕ). getD s (at + m) 0)
+  row-turn at i sum h e = row-next k n s l (2 ^ 32) (λ (m : ℕ). at + m) (omega (arith, row-room)) i sum (getD s (at + i) 0) h e refl
+
+  pub square-turn : (start stride j sum part : ℕ) → j < n → sum ≡ sumBelow j (rowFrom n s start stride) → part ≡ rowFrom n s start stride j
+      → NextSum (2 ^ 32) j sum part (rowFrom n s start stride)
+  square-turn start stride = square-next k n s l (2 ^ 32) start stride (omega (arith, mul-le-mul few row-room))
+
+  -- a square's mean: half the number of samples can be added, and it is not above a sample
+  pub mean-turn : (start stride sum : ℕ) → 0 < n → sum ≡ squareFrom n s start stride → (sum + n * n / 2 < 2 ^ 32) × ((0 < n * n) × (meanOf (n * n) sum ≤ k))
+  mean-turn start stride sum h e =
+      let some : 0 < n * n = mul-pos h h in
+      let most : sum ≤ n * n * k = rw (e, mul-assoc n n k) (square-most k n s l start stride) in
+      (omega (arith, e, square-most k n s l start stride, mul-le-mul few row-room, samples-few n few), (some, mean-most k (n * n) sum some most))
 
 -- ---- pairs
 

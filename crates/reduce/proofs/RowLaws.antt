@@ -1,23 +1,32 @@
--- Rows of squares: chunks that may overlap, and where a row of the plane and of the reduced one lie. Assumes nothing.
+-- Rows of squares: chunks that may overlap, where a row of the plane and of the reduced one lie, and what is written row by row. Of either
+-- word. Assumes nothing.
 use mathlib.Core.Bool.{false, _||_, not}
 use mathlib.Core.List.{List}
 use mathlib.Core.Path.{_≡_, sym, ap, _∙_}
 use Prim.Native.Nat.{ℕ, _+_, _-_, _*_, _/_, _%_, _≤_, _<_, min}
 use native.Mathlib.Decide.{decLt}
-use native.Mathlib.Nat.{add-mul, mul-left-comm, mul-le-mul-right, min-eq-left, min-eq-right, div-mul-le-self, lt-div-mul-add}
+use native.Mathlib.Nat.{add-mul, zero-mul, mul-left-comm, mul-le-mul, mul-le-mul-right, min-eq-left, min-eq-right, div-mul-le-self, lt-div-mul-add}
 use native.Mathlib.Omega.{arith}
-use borrow.Author.Tests.{le-leb, lt-ltb, le-ltb, eqb-true, not-false}
+use borrow.Author.Tests.{le-leb, lt-ltb, le-ltb, ltb-true, eqb-true, not-false}
+use borrow.Rule.Slice.PartMut.{putMid}
 use lib.Arith.{digits-div, digits-mod}
 use lib.Dec.{ltb, eqb}
+use lib.ListN.{length, getD, take, drop}
 use Rattle.answer.proofs.Laws.{or-no}
 use Rattle.plane.specs.Needs.{squareFrom}
+use Rattle.plane.specs.Planes.{planeFault, maxSide}
 use Rattle.plane.specs.declared.Plane.{Plane}
-use Rattle.plane.proofs.PlaneLaws.{Lies, row-in}
-use Rattle.plane.proofs.SquareLaws.{square-is}
+use Rattle.plane.proofs.PlaneLaws.{Lies, lies, row-in}
+use Rattle.plane.proofs.SquareLaws.{square-is, part-at}
 use Rattle.sums.specs.Means.{meanOf}
-use Rattle.sums.specs.Places.{inRun}
-use Rattle.reduce.specs.Reduce.{squareMean, rowAt, columnAt, notReduced}
+use Rattle.sums.specs.Places.{inRun, inRows}
+use Rattle.sums.specs.Written.{written}
+use Rattle.sums.proofs.PlaceLaws.{rows-next}
+use Rattle.sums.proofs.WrittenLaws.{written-value}
+use Rattle.sums.proofs.Wrote.{Wrote, wrote-part, wrote-all}
+use Rattle.reduce.specs.Reduce.{squareMean, rowAt, columnAt, badFactor, notReduced, reducedAfter}
 use Rattle.reduce.specs.Needs.{sumCount, RowsIn, meanFrom, Half}
+use Rattle.reduce.proofs.ReduceLaws.{factor-small, mean-one}
 
 -- ---- chunks
 
@@ -92,6 +101,30 @@ chunk-in h start stride count x most half room rows =
     let chunk = half .whole in
     record { rows = λ j j<. let row = rows .rows j j< in omega arith }
 
+-- ---- squares side by side
+
+-- a square lies within the rows of all of them
+pub square-in : (f start stride count x most : ℕ) → x < count → RowsIn start stride f (count * f) most → RowsIn (start + x * f) stride f f most
+square-in f start stride count x most h rows =
+    let next : x + 1 ≤ count = omega arith in
+    record { rows = λ j j<. omega (arith, mul-le-mul-right f next, add-mul x 1 f, rows .rows j j<) }
+
+-- rows begin with the first of them
+pub first-in : (start stride m n most : ℕ) → 0 < m → RowsIn start stride m n most → start + n ≤ most
+first-in start stride m n most some rows = omega (arith, rows .rows 0 some, zero-mul stride)
+
+-- with a factor of 1 the samples are the means
+module _ (f start stride count : ℕ) (s : List ℕ) (one : f ≡ 1) (rows : RowsIn start stride f (count * f) (length s)) where
+  pub copy-in : start + count ≤ length s
+  copy-in = omega (arith, first-in start stride f (count * f) (length s) (omega arith) rows, ap (λ (i : ℕ). count * i) one)
+
+  pub copy-is : (out : List ℕ) → written (λ (k : ℕ). ltb k count) (λ (k : ℕ). getD (take (length s - start) (drop start s)) k 0) out ≡ written (λ (k : ℕ). ltb k count) (meanFrom f s start stride) out
+  copy-is out =
+      written-value (λ (k : ℕ). ltb k count) (λ (k : ℕ). getD (take (length s - start) (drop start s)) k 0) (meanFrom f s start stride) out
+      (λ k t.
+      part-at s start k (omega (arith, copy-in, ltb-true k count t))
+      ∙ sym (ap (λ (g : ℕ). meanFrom g s start stride k) one ∙ mean-one s start stride k))
+
 -- ---- rows of the plane
 
 -- the lent sides are the reduced ones
@@ -129,3 +162,49 @@ mean-to f s origin stride origin2 stride2 y k h =
     let row : (origin2 + y * stride2 + k - origin2) / stride2 ≡ y = ap (λ (i : ℕ). i / stride2) place ∙ digits-div y h in
     let column : (origin2 + y * stride2 + k - origin2) % stride2 ≡ k = ap (λ (i : ℕ). i % stride2) place ∙ digits-mod y h in
     rw (row, column)
+
+-- ---- all rows, of a plane and a lent one over n and m samples that are not refused
+
+-- what a turn has: its row of the lent plane, and its row of squares
+pub record Turn (f n m : ℕ) (p q : Plane) (y : ℕ) : Type 0 where
+  pub lent : q .origin + y * q .stride + q .width ≤ m
+  pub strides : q .width ≤ q .stride
+  pub squares : RowsIn (p .origin + y * f * p .stride) (p .stride) f (q .width * f) n
+  pub start : p .origin + y * f * p .stride ≤ n
+  pub few : y * f ≤ maxSide * 32
+
+pub plane-turn : (f n m : ℕ) (p q : Plane) (y : ℕ) → (badFactor f ≡ false) × ((planeFault p n ≡ 0) × ((planeFault q m ≡ 0) × (notReduced f p q ≡ false))) → y < q .height → Turn f n m p q y
+plane-turn f n m p q y good h =
+    let small = factor-small f (good .0) in
+    let l = lies q m (good .1 .1 .0) in
+    let rows : y ≤ maxSide = omega (arith, l) in
+    let s = squares-in f n p q (lies p n (good .1 .0)) (reduced-sides f p q (good .1 .1 .1)) y h in
+    record {
+      lent = row-in q m y l h;
+      strides = l .strides;
+      squares = s;
+      start = omega (arith, first-in (p .origin + y * f * p .stride) (p .stride) f (q .width * f) n (small .0) s);
+      few = mul-le-mul rows (small .1);
+    }
+
+-- the first y rows are written
+abbrev pub RowsWrote : ℕ → List ℕ → List ℕ → ℕ → ℕ → ℕ → ℕ → ℕ → ℕ → List ℕ → Type 0
+RowsWrote f s r stride origin stride2 origin2 width y l = Wrote (inRows origin2 stride2 y width) (meanTo f s origin stride origin2 stride2) r l
+
+module _ (f : ℕ) (p : Plane) (s : List ℕ) (q : Plane) (r l : List ℕ) (y : ℕ) (w : RowsWrote f s r (p .stride) (p .origin) (q .stride) (q .origin) (q .width) y l) where
+  -- a further one, lent as a part
+  pub row-wrote : Turn f (length s) (length r) p q y → (t : List ℕ)
+      → let at = q .origin + y * q .stride in
+      t ≡ written (λ (k : ℕ). ltb k (q .width)) (meanFrom f s (p .origin + y * f * p .stride) (p .stride)) (take (length l - at) (drop at l))
+      → RowsWrote f s r (p .stride) (p .origin) (q .stride) (q .origin) (q .width) (y + 1) (putMid at (length l - at) l t)
+  row-wrote turn t e =
+      wrote-part w _ (q .width) (meanFrom f s (p .origin + y * f * p .stride) (p .stride)) (turn .lent)
+      (λ k k<. mean-to f s (p .origin) (p .stride) (q .origin) (q .stride) y k (omega (arith, turn .strides))) t e
+      (rows-next (q .origin) (q .stride) y (q .width))
+
+  -- all of them are the reduced plane
+  pub rows-wrote : y ≡ q .height → l ≡ reducedAfter f p s q r
+  rows-wrote e =
+      wrote-all (λ (n : ℕ). inRows (q .origin) (q .stride) n (q .width)) y (q .height) w e
+      ∙ written-value (inRows (q .origin) (q .stride) (q .height) (q .width)) _ (λ (k : ℕ). squareMean f p s (rowAt q k) (columnAt q k)) r
+      (λ k _. mean-place f p s q k)

@@ -8,7 +8,7 @@ use lib.ListN.{length}
 use Rattle.answer.specs.Answer.{lentAfter}
 use Rattle.answer.specs.Refusal.{refusal, _orElse_}
 use Rattle.plane.specs.Blocks.{squareSum}
-use Rattle.plane.specs.Planes.{planeFault, byteFault}
+use Rattle.plane.specs.Planes.{Word, planeFault, wordFault, tooLarge}
 use Rattle.plane.specs.declared.Plane.{Plane}
 use Rattle.sums.specs.Means.{meanOf}
 use Rattle.sums.specs.Places.{inRows}
@@ -47,15 +47,19 @@ unfoldable pub notReduced : ℕ → Plane → Plane → Bool
 notReduced f p q = not (eqb (q .width) (p .width / f)) || not (eqb (q .height) (p .height / f))
 
 -- 6, 5, the plane's 1 and 2, the lent plane's 1 and 2, and 3
-unfoldable pub reduceFault : ℕ → ℕ → Plane → List ℕ → Plane → List ℕ → ℕ
-reduceFault depth f p s q r =
+unfoldable pub sidesFault : Word → ℕ → ℕ → Plane → ℕ → Plane → ℕ → ℕ
+sidesFault word depth f p n q m =
     refusal 6 (badFactor f)
-    orElse byteFault depth
+    orElse wordFault word depth
     orElse refusal 1 (tooSmall f p)
-    orElse planeFault p (length s)
-    orElse planeFault q (length r)
+    orElse planeFault p n
+    orElse planeFault q m
     orElse refusal 3 (notReduced f p q)
 
+-- and 16, of the plane that is reduced
+unfoldable pub reduceFault : Word → ℕ → ℕ → Plane → List ℕ → Plane → List ℕ → ℕ
+reduceFault word depth f p s q r = sidesFault word depth f p (length s) q (length r) orElse refusal 16 (tooLarge depth p s)
+
 -- the lent samples at exit: where it is refused, as they were
-abbrev pub reducedOf : ℕ → ℕ → Plane → List ℕ → Plane → List ℕ → List ℕ
-reducedOf depth f p s q r = lentAfter (reduceFault depth f p s q r) (reducedAfter f p s q r) r
+abbrev pub reducedOf : Word → ℕ → ℕ → Plane → List ℕ → Plane → List ℕ → List ℕ
+reducedOf word depth f p s q r = lentAfter (reduceFault word depth f p s q r) (reducedAfter f p s q r) r

@@ -10,14 +10,16 @@ ghost use Prim.Native.Nat.{ℕ, _+_, _*_, _/_, _≤_, _<_, _^_};
 ghost use lib.Dec.{ltb};
 ghost use lib.ListN.{length, getD};
 ghost use Rattle.plane.specs.Needs.{squareFrom};
-ghost use Rattle.plane.specs.Planes.{planeFault};
+ghost use Rattle.plane.specs.Planes.{planeFault, byte};
 ghost use Rattle.sums.specs.Means.{meanOf};
 ghost use Rattle.sums.specs.Needs.{byteMost};
 ghost use Rattle.sums.specs.Sums.{sumBelow};
 ghost use Rattle.sums.specs.Table.{table};
 ghost use Rattle.sums.specs.Written.{written};
 ghost use Rattle.reduce.specs.Reduce.{badFactor, notReduced, reduceFault, reducedAfter, reducedOf};
-ghost use Rattle.reduce.specs.Needs.{sumCount, laneCount, RowsIn, pairAt, pairsFrom, groupOf, meanFrom, Half};
+ghost use Rattle.reduce.specs.Needs.{sumCount, laneCount, RowsIn, pairAt, pairsFrom, groupOf, meanFrom, Half, sidesBy};
+
+pub mod deep;
 
 // How many sums a chunk has, how many are taken at once, and in how many turns.
 const SUMS: usize = 64;
@@ -243,26 +245,25 @@ fn bad_factor(factor: usize) -> bool
         | (factor == 32))
 }
 
-// The refusal of a reduction, or 0: of the factor, of the depth, of the plane, of the lent one, and 3 where the lent sides
-// are not the reduced ones.
-fn reduce_fault(depth: u64, factor: usize, p: Plane, s: &[u8], q: Plane, reduced: &[u8]) -> u32
-    ensures { λ r. ⌜ r ≡ reduceFault depth factor p (now (s .entry)) q (now (reduced .entry)) ⌝ }
+// The refusal of a reduction by its sides, or 0, of either word. That of the depth is given: it comes after 6 of the factor, and
+// before those of the plane, of the lent one, and 3 where the lent sides are not the reduced ones. No sample is looked at.
+fn sides_fault(fault: u32, factor: usize, p: Plane, n: usize, q: Plane, m: usize) -> u32
+    ensures { λ r. ⌜ r ≡ sidesBy fault factor p n q m ⌝ }
 {
     if bad_factor(factor) {
         return 6;
     }
-    let fault = plane::byte_fault(depth);
     if fault != 0 {
         return fault;
     }
     if (p.width < factor) | (p.height < factor) {
         return 1;
     }
-    let first = p.fault(s.len());
+    let first = p.fault(n);
     if first != 0 {
         return first;
     }
-    let second = q.fault(reduced.len());
+    let second = q.fault(m);
     if second != 0 {
         return second;
     }
@@ -272,11 +273,25 @@ fn reduce_fault(depth: u64, factor: usize, p: Plane, s: &[u8], q: Plane, reduced
     0
 }
 
+// The refusal of a reduction, or 0. Of bytes the sides decide.
+fn reduce_fault(depth: u64, factor: usize, p: Plane, s: &[u8], q: Plane, reduced: &[u8]) -> u32
+    ensures { λ r. ⌜ r ≡ reduceFault byte depth factor p (now (s .entry)) q (now (reduced .entry)) ⌝ }
+{
+    sides_fault(
+        plane::byte_fault(depth),
+        factor,
+        p,
+        s.len(),
+        q,
+        reduced.len(),
+    )
+}
+
 // A plane reduced by a factor into a lent plane of the reduced sides: 0, or the refusal. Each visible sample of the lent
 // plane becomes the mean of its square, rounded to the nearest, a half up. A refused call writes nothing.
 pub fn reduce(depth: u64, factor: usize, p: Plane, s: &[u8], q: Plane, reduced: &mut [u8]) -> u32
-    ensures { λ r. ⌜ r ≡ reduceFault depth factor p (now (s .entry)) q (now (reduced .entry)) ⌝ }
-    ensures { λ _. ⌜ now (reduced .exit) ≡ reducedOf depth factor p (now (s .entry)) q (now (reduced .entry)) ⌝ }
+    ensures { λ r. ⌜ r ≡ reduceFault byte depth factor p (now (s .entry)) q (now (reduced .entry)) ⌝ }
+    ensures { λ _. ⌜ now (reduced .exit) ≡ reducedOf byte depth factor p (now (s .entry)) q (now (reduced .entry)) ⌝ }
 {
     let fault = reduce_fault(depth, factor, p, s, q, reduced);
     if fault != 0 {

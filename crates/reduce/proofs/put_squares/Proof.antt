@@ -1,17 +1,16 @@
 -- `reduce::put_squares` meets its contract. After x turns the first x places have the means of their squares. Assumes nothing.
 use mathlib.Core.Path.{ap}
-use Prim.Native.Nat.{ℕ, _+_, _*_, _≤_, _<_, _-_}
-use native.Mathlib.Nat.{mul-le-mul, mul-le-mul-right, add-mul, mul-pos, mul-assoc}
+use Prim.Native.Nat.{ℕ, _+_, _*_, _/_, _^_, _≤_, _<_, _-_}
 use native.Mathlib.Omega.{arith}
 use borrow.Author.Needs.{needs}
 use lib.Dec.{ltb}
 use lib.ListN.{length}
-use Rattle.plane.proofs.SquareLaws.{square-most}
 use Rattle.sums.specs.Means.{meanOf}
 use Rattle.sums.specs.Needs.{byteMost}
-use Rattle.sums.proofs.MeanLaws.{mean-most}
 use Rattle.sums.proofs.Wrote.{Wrote, wrote-all, front-none, front-more}
 use Rattle.reduce.specs.Needs.{RowsIn, meanFrom}
+use Rattle.reduce.proofs.ReduceLaws.{samples-few, mean-turn}
+use Rattle.reduce.proofs.RowLaws.{square-in, first-in}
 use Rattle.reduce.proofs.put_squares.Statement.{statement}
 use Rattle.reduce.proofs.put_squares.Tie as tie
 
@@ -21,15 +20,11 @@ Inv-loop out₀ s start stride factor count samples x₀ out x = (x ≤ count) �
 abbrev μ-loop : tie.MeasureT-loop
 μ-loop out₀ s start stride factor count samples x₀ out x = count - x
 
--- a square has 1,024 samples at most
-few : (f : ℕ) → f ≤ 32 → f * f ≤ 1024
-few f h = mul-le-mul h h
-
 mul-samples : tie.Need-mul-samples Inv-loop μ-loop
-mul-samples c = let s = c .before .before in omega (arith, few (s .args .factor) (s .pre .0 .1))
+mul-samples c = let s = c .before .before in omega (arith, samples-few (s .args .factor) (s .pre .0 .1))
 
 cast-samples : tie.Need-cast-samples Inv-loop μ-loop
-cast-samples c = let s = c .before .before in omega (arith, few (s .args .factor) (s .pre .0 .1))
+cast-samples c = let s = c .before .before in omega (arith, samples-few (s .args .factor) (s .pre .0 .1))
 
 loop-holds : tie.Need-loop-holds Inv-loop μ-loop
 loop-holds c = (search needs, front-none _ _)
@@ -40,16 +35,11 @@ entry c = c .before .before .before .before
 
 -- the turn's square lies within the samples
 inside : (c : tie.In-loop Inv-loop μ-loop) → let s = entry c .args in RowsIn (s .start + c .before .loop .x * s .factor) (s .stride) (s .factor) (s .factor) (length (s .s .now))
-inside c =
-    let s = entry c in
-    let x = c .before .loop .x in
-    let next : x + 1 ≤ s .args .count = omega arith in
-    let width = mul-le-mul-right (s .args .factor) next in
-    record { rows = λ j j<. omega (arith, width, add-mul x 1 (s .args .factor), s .pre .1 .1 .rows j j<) }
+inside c = let s = entry c in square-in (s .args .factor) (s .args .start) (s .args .stride) (s .args .count) (c .before .loop .x) _ (omega arith) (s .pre .1 .1)
 
--- its first row does
-first : (c : tie.In-loop Inv-loop μ-loop) → let s = entry c .args in s .start + c .before .loop .x * s .factor + 0 * s .stride + s .factor ≤ length (s .s .now)
-first c = inside c .rows 0 (entry c .pre .0 .0)
+-- and where it starts
+first : (c : tie.In-loop Inv-loop μ-loop) → let s = entry c .args in s .start + c .before .loop .x * s .factor + s .factor ≤ length (s .s .now)
+first c = let s = entry c in first-in _ (s .args .stride) (s .args .factor) (s .args .factor) _ (s .pre .0 .0) (inside c)
 
 mul-sum-square : tie.Need-mul-sum-square Inv-loop μ-loop
 mul-sum-square c = omega (arith, first c)
@@ -60,27 +50,25 @@ add-sum-square c = omega (arith, first c)
 sum-square-requires : tie.Need-sum-square-requires Inv-loop μ-loop
 sum-square-requires c κs = (inside c, entry c .pre .0 .1)
 
--- its sum is not above that of so many bytes
-small : (c : tie.After-sum-square Inv-loop μ-loop) → let s = entry (c .before) .args in c .sum-square .result ≤ s .factor * s .factor * byteMost
-small c =
-    let s = entry (c .before) .args in
+-- its sum has room for the rounding, and its mean is not above a sample
+mean : (c : tie.After-sum-square Inv-loop μ-loop)
+    → let f = entry (c .before) .args .factor in
+    let sum = c .sum-square .result in
+    (sum + f * f / 2 < 2 ^ 32) × ((0 < f * f) × (meanOf (f * f) sum ≤ byteMost))
+mean c =
+    let s = entry (c .before) in
     let bytes = c .before .before .before .shared-slice-known .given in
-    rw (c .sum-square .ensures, mul-assoc) (square-most byteMost (s .factor) (s .s .now) (λ i. omega (arith, bytes i)) _ _)
+    mean-turn byteMost (s .args .factor) (s .args .s .now) (λ i. omega (arith, bytes i)) (omega arith) (s .pre .0 .1) _ (s .args .stride) (c .sum-square .result) (s .pre .0 .0)
+    (c .sum-square .ensures)
 
 add-out : tie.Need-add-out Inv-loop μ-loop
-add-out c = let s = entry (c .before) in omega (arith, small c, few (s .args .factor) (s .pre .0 .1))
-
--- a square has a sample
-some : (c : tie.After-sum-square Inv-loop μ-loop) → let s = entry (c .before) .args in 0 < s .factor * s .factor
-some c = let s = entry (c .before) in mul-pos (s .pre .0 .0) (s .pre .0 .0)
+add-out c = record { fits = mean c .0 }
 
 div-out : tie.Need-div-out Inv-loop μ-loop
-div-out c = some c
+div-out c = mean c .1 .0
 
 cast-out : tie.Need-cast-out Inv-loop μ-loop
-cast-out c =
-    let s = entry (c .before) .args in
-    omega (arith, mean-most byteMost (s .factor * s .factor) (c .sum-square .result) (some c) (small c))
+cast-out c = omega (arith, mean c .1 .1)
 
 slice-write-out : tie.Need-slice-write-out Inv-loop μ-loop
 slice-write-out c = omega (arith, c .before .before .loop .inv .1 .same, entry (c .before) .pre .1 .0)

@@ -2,6 +2,7 @@
 use mathlib.Core.Path.{_≡_, sym, _∙_}
 use borrow.Author.Needs.{needs}
 use Rattle.answer.proofs.Laws.{lent-written, lent-kept}
+use Rattle.plane.specs.Planes.{byte}
 use Rattle.reduce.specs.Reduce.{reduceFault}
 use Rattle.reduce.proofs.ReduceLaws.{fine}
 use Rattle.reduce.proofs.reduce.Statement.{statement}
@@ -17,11 +18,11 @@ returns : tie.Need-returns
 returns c = let e = c .before .reduce-fault .ensures in (e, lent-kept _ _ _ _ e (c .if1 .taken))
 
 -- past the test nothing is refused
-none : (c : tie.Else1) → let s = c .before .before .before .before .before .args in 0 ≡ reduceFault (s .depth) (s .factor) (s .p) (s .s .now) (s .q) (s .reduced .now)
+none : (c : tie.Else1) → let s = c .before .before .before .before .before .args in 0 ≡ reduceFault byte (s .depth) (s .factor) (s .p) (s .s .now) (s .q) (s .reduced .now)
 none c = sym (c .if1 .left) ∙ c .before .reduce-fault .ensures
 
 reduce-plane-requires : tie.Need-reduce-plane-requires
-reduce-plane-requires c κs = fine _ _ _ _ _ _ (sym (none (c .before)))
+reduce-plane-requires c κs = fine byte _ _ _ _ _ _ (sym (none (c .before)))
 
 same-length-2 : tie.Need-same-length-2
 same-length-2 c = search needs

@@ -1,26 +1,20 @@
 -- `reduce::reduce_row` meets its contract: a factor of 1 copies, few squares are taken one by one, and others in chunks. Assumes nothing.
-use mathlib.Core.Bool.{true}
 use mathlib.Core.Path.{_≡_, sym, ap, subst, _∙_}
 use Prim.Native.Nat.{ℕ, _+_, _*_, _/_, _≤_}
-use native.Mathlib.Nat.{zero-mul}
 use native.Mathlib.Omega.{arith}
 use borrow.Author.Needs.{needs}
-use borrow.Author.Tests.{ltb-true}
 use lib.Dec.{ltb}
 use lib.ListN.{length, length-take, length-drop}
-use Rattle.plane.proofs.SquareLaws.{part-at}
 use Rattle.sums.specs.Written.{written}
-use Rattle.sums.proofs.WrittenLaws.{written-value}
 use Rattle.reduce.specs.Needs.{RowsIn, meanFrom, Half}
-use Rattle.reduce.proofs.ReduceLaws.{factor-small, factor-half, mean-one}
+use Rattle.reduce.proofs.ReduceLaws.{factor-small, factor-half}
+use Rattle.reduce.proofs.RowLaws.{copy-in, copy-is}
 use Rattle.reduce.proofs.reduce_row.Statement.{statement}
 use Rattle.reduce.proofs.reduce_row.Tie as tie
 
 -- the samples that are copied lie within
 inside : (c : tie.Then1) → let s = c .before .before .before .args in s .start + s .count ≤ length (s .s .now)
-inside c =
-    let s = c .before .before .before in
-    omega (arith, s .pre .1 .1 .rows 0 (factor-small _ (s .pre .0) .0), zero-mul (s .args .stride), ap (λ (f : ℕ). s .args .count * f) (c .if1 .taken))
+inside c = let s = c .before .before .before in copy-in (s .args .factor) (s .args .start) (s .args .stride) (s .args .count) (s .args .s .now) (c .if1 .taken) (s .pre .1 .1)
 
 sub-copy-row : tie.Need-sub-copy-row
 sub-copy-row c = omega (arith, inside (c .before))
@@ -44,12 +38,8 @@ returns : tie.Need-returns
 returns c =
     let r = c .before .before in
     let d = r .before .before .before in
-    let s = d .before .before .before .args in
-    r .copy-row .ensures
-    ∙ written-value (λ (k : ℕ). ltb k (s .count)) _ (meanFrom (s .factor) (s .s .now) (s .start) (s .stride)) (s .out .now)
-    (λ k t.
-    part-at (s .s .now) (s .start) k (omega (arith, inside d, ltb-true k (s .count) t))
-    ∙ sym (ap (λ (f : ℕ). meanFrom f (s .s .now) (s .start) (s .stride) k) (d .if1 .taken) ∙ mean-one (s .s .now) (s .start) (s .stride) k))
+    let s = d .before .before .before in
+    r .copy-row .ensures ∙ copy-is (s .args .factor) (s .args .start) (s .args .stride) (s .args .count) (s .args .s .now) (d .if1 .taken) (s .pre .1 .1) (s .args .out .now)
 
 -- past the first test the factor is twice its half
 halved : (c : tie.Else1) → let s = c .before .before .before .args in (2 * (s .factor / 2) ≡ s .factor) × Half (s .factor / 2)

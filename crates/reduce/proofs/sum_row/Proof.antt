@@ -1,13 +1,13 @@
 -- `reduce::sum_row` meets its contract. After i turns the sum is that of the first i samples. Assumes nothing.
-use mathlib.Core.Path.{_≡_, refl}
+use mathlib.Core.Path.{_≡_}
 use Prim.Native.Nat.{ℕ, _+_, _^_, _≤_, _-_}
 use native.Mathlib.Omega.{arith}
 use borrow.Author.Needs.{needs}
 use lib.ListN.{getD}
-use Rattle.plane.proofs.SquareLaws.{row-next}
 use Rattle.sums.specs.Needs.{byteMost}
 use Rattle.sums.specs.Sums.{sumBelow}
 use Rattle.sums.proofs.SumLaws.{NextSum, sum-none, sum-to}
+use Rattle.reduce.proofs.ReduceLaws.{row-turn}
 use Rattle.reduce.proofs.sum_row.Statement.{statement}
 use Rattle.reduce.proofs.sum_row.Tie as tie
 
@@ -36,8 +36,8 @@ next : (c : tie.After-shared-slice-known Inv-loop μ-loop)
 next c =
     let l = c .before .before in
     let s = l .before .args in
-    let n = l .before .pre .1 in
-    row-next byteMost (s .n) (s .s .now) (λ i. omega (arith, c .shared-slice-known .given i)) (2 ^ 32) (λ (m : ℕ). s .at + m) (omega arith) (l .loop .i) (l .loop .sum) _ (omega arith) (l .loop .inv .1) refl
+    row-turn byteMost (s .n) (s .s .now) (λ i. omega (arith, c .shared-slice-known .given i)) (omega arith) (l .before .pre .1) (s .at) (l .loop .i) (l .loop .sum) (omega arith)
+    (l .loop .inv .1)
 
 add-sum-2 : tie.Need-add-sum-2 Inv-loop μ-loop
 add-sum-2 c = record { fits = next c .1 }

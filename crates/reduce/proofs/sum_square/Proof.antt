@@ -1,15 +1,14 @@
 -- `reduce::sum_square` meets its contract. After j turns the sum is that of the first j rows. Assumes nothing.
 use mathlib.Core.Path.{_≡_}
 use Prim.Native.Nat.{_+_, _*_, _^_, _≤_, _-_}
-use native.Mathlib.Nat.{mul-le-mul}
 use native.Mathlib.Omega.{arith}
 use borrow.Author.Needs.{needs}
 use lib.ListN.{length}
 use Rattle.plane.specs.Needs.{rowFrom}
-use Rattle.plane.proofs.SquareLaws.{square-next}
 use Rattle.sums.specs.Needs.{byteMost}
 use Rattle.sums.specs.Sums.{sumBelow}
 use Rattle.sums.proofs.SumLaws.{NextSum, sum-none, sum-to}
+use Rattle.reduce.proofs.ReduceLaws.{square-turn}
 use Rattle.reduce.proofs.sum_square.Statement.{statement}
 use Rattle.reduce.proofs.sum_square.Tie as tie
 
@@ -44,9 +43,7 @@ next : (c : tie.After-sum-row Inv-loop μ-loop)
 next c =
     let l = c .before .before in
     let s = l .before .before .args in
-    let n = l .before .before .pre .1 in
-    let row : s .n * byteMost ≤ 32 * byteMost = omega arith in
-    square-next byteMost (s .n) (s .s .now) (λ i. omega (arith, l .before .shared-slice-known .given i)) (2 ^ 32) (s .start) (s .stride) (omega (arith, mul-le-mul n row))
+    square-turn byteMost (s .n) (s .s .now) (λ i. omega (arith, l .before .shared-slice-known .given i)) (omega arith) (l .before .before .pre .1) (s .start) (s .stride)
     (l .loop .j) (l .loop .sum) (c .sum-row .result) (omega arith) (l .loop .inv .1) (c .sum-row .ensures)
 
 add-sum : tie.Need-add-sum Inv-loop μ-loop
