@@ -1,4 +1,5 @@
--- Every starred value holds: one test is computed over the whole table, and one law turns it into the equation of each row.
+-- Every starred value holds, and every value of the depths: one test is computed over each table, and one law turns it into the
+-- equation of each row.
 -- Assumes nothing.
 use mathlib.Core.Path.{_≡_, refl}
 use mathlib.Core.Bool.{true}
@@ -12,9 +13,10 @@ use lib.Dec.{eqb}
 use borrow.Author.Tests.{eqb-true}
 use Rattle.answer.specs.Refusal.{_orElse_}
 use Rattle.answer.specs.Answer.{answered}
+use Rattle.sums.specs.Any.{anyBelow}
 use Rattle.sums.specs.Sums.{sumBelow}
 use Rattle.sums.specs.Table.{table}
-use Rattle.plane.specs.Planes.{badSide, badPlane, pastSamples, sizesDiffer, planeFault, sizesFault, depthFault, byteFault, pairFault}
+use Rattle.plane.specs.Planes.{badSide, badPlane, pastSamples, sizesDiffer, planeFault, sizesFault, depthFault, wordFault, tooLarge, sampleFault, shapesFault, pairFault}
 use Rattle.scale.specs.Scale.{sizeFault, factorBy, scaleOf}
 use Rattle.hadamard.specs.Transform.{sumZ, sign, output, transformed}
 use Rattle.satd.specs.Satd.{satdValue}
@@ -28,6 +30,7 @@ use Rattle.state.proofs.Tests.{and-both}
 use Rattle.detector.specs.Step.{acceptedOf, stepOf}
 use Rattle.edges.specs.Rows.{Value, Row, same, allSame, Holds}
 use Rattle.edges.specs.Starred.{starred}
+use Rattle.edges.specs.Depths.{depths}
 
 -- ---- the law
 
@@ -46,7 +49,7 @@ by-test (r ∷ rows) t (suc k) h = by-test rows (and-both (same (r .given) (r .s
 
 tested : allSame starred ≡ true
 unfolding
-    starred allSame answered _orElse_ sumBelow table badSide badPlane pastSamples sizesDiffer planeFault sizesFault depthFault byteFault pairFault sizeFault
+    starred allSame answered _orElse_ sumBelow anyBelow table badSide badPlane pastSamples sizesDiffer planeFault sizesFault depthFault wordFault tooLarge shapesFault pairFault sizeFault
     factorBy scaleOf sumZ sign output transformed pow one ones satdValue importanceTotal isScaled fastThreshold importanceThreshold settingsFault anyOf
     countOf walkBack backwardOf cutOf stateFault numberFault lengthFault stopFault listsFault stepFault acceptedOf stepOf ofBits toBits ofInt sub
     mul div lt le eq
@@ -54,3 +57,15 @@ tested = refl
 
 pub starred-hold : Holds starred
 starred-hold = by-test starred tested
+
+-- ---- and the values at each depth
+
+tested-depths : allSame depths ≡ true
+unfolding
+    depths allSame answered _orElse_ sumBelow anyBelow table badSide badPlane pastSamples sizesDiffer planeFault sizesFault depthFault wordFault tooLarge
+    sampleFault shapesFault pairFault sumZ sign output transformed pow one ones satdValue importanceTotal fastThreshold importanceThreshold ofBits
+    toBits ofInt sub mul div lt le eq
+tested-depths = refl
+
+pub depths-hold : Holds depths
+depths-hold = by-test depths tested-depths

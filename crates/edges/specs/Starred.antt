@@ -8,6 +8,7 @@ use lib.ListN.{length, drop, getD, replicate}
 use lib.Ieee.{Float, binary64, ofInt}
 use Rattle.answer.specs.Answer.{Answer}
 use Rattle.plane.specs.Blocks.{blockSide}
+use Rattle.plane.specs.Planes.{byte}
 use Rattle.plane.specs.declared.Plane.{Plane}
 use Rattle.scale.specs.Scale.{modeFast, modeStandard, factorAnswer}
 use Rattle.satd.specs.Satd.{satdOf}
@@ -24,33 +25,33 @@ use Rattle.detector.specs.Step.{Outcome, stepOf}
 use Rattle.edges.specs.Rows.{Value, number, truth, Row, realOf, ofAnswer, cutValue, scoreValue}
 
 infix 10 _is_
-abbrev _is_ : Value → Value → Row
+abbrev pub _is_ : Value → Value → Row
 given is said = record { given = given; said = said }
 
 -- ---- blocks
 
-abbrev real : ℕ → Float
+abbrev pub real : ℕ → Float
 real n = ofInt binary64 (pos n)
 
 abbrev depth : ℕ
 depth = 8
 
 -- one block, alone in its plane
-abbrev block : Plane
+abbrev pub block : Plane
 block = record { width = blockSide; height = blockSide; stride = blockSide; origin = 0 }
 
-abbrev flat : ℕ → List ℕ
+abbrev pub flat : ℕ → List ℕ
 flat x = replicate (blockSide * blockSide) x
 
 -- x first, and y for every other sample
-abbrev first : ℕ → ℕ → List ℕ
+abbrev pub first : ℕ → ℕ → List ℕ
 first x y = x ∷ replicate 63 y
 
 abbrev smallEdge : ℕ → Value
 smallEdge edge = ofAnswer number (factorAnswer edge 4000 modeFast)
 
 abbrev importance : ℕ → Answer Float
-importance other = importanceOf depth block (flat 0) block (flat other)
+importance other = importanceOf byte depth block (flat 0) block (flat other)
 
 abbrev roundedMean : ℕ → Value
 roundedMean sum = number (mean (blockSum block (first sum 0) 0 0))
