@@ -40,7 +40,7 @@ use Rattle.brinepulley.proofs.card.brine_log_append.Kinds as log-append
 use Rattle.brinepulley.proofs.card.brine_log_append.Reads as log-append-reads
 
 -- two outcomes that are both the number c and the place's content x
-same : {A : Type 0} {c : ℤ} {x : A} (r r′ : ℤ) (y y′ : A) → (r ≡ c) × (y ≡ x) → (r′ ≡ c) × (y′ ≡ x) → _≡_ {A = ℤ × A} (r, y) (r′, y′)
+pub same : {A : Type 0} {c : ℤ} {x : A} (r r′ : ℤ) (y y′ : A) → (r ≡ c) × (y ≡ x) → (r′ ≡ c) × (y′ ≡ x) → _≡_ {A = ℤ × A} (r, y) (r′, y′)
 same {A} r r′ y y′ p q = ap₂ (λ (z : ℤ) (a : A). (z, a)) (p .0 ∙ sym (q .0)) (p .1 ∙ sym (q .1))
 
 -- ---- no lent place is written
@@ -85,7 +85,7 @@ log-append-unique κs a r r′ e e′ p q = same r r′ (now (e .0)) (now (e′ 
 
 -- ---- two lent places are written
 
-both : {A B : Type 0} {c : ℤ} {x : A} {y : B} (r r′ : ℤ) (a a′ : A) (b b′ : B)
+pub both : {A B : Type 0} {c : ℤ} {x : A} {y : B} (r r′ : ℤ) (a a′ : A) (b b′ : B)
     → (r ≡ c) × ((a ≡ x) × (b ≡ y)) → (r′ ≡ c) × ((a′ ≡ x) × (b′ ≡ y)) → _≡_ {A = ℤ × A × B} (r, a, b) (r′, a′, b′)
 both r r′ a a′ b b′ p q =
     let numbers : r ≡ r′ = p .0 ∙ sym (q .0) in

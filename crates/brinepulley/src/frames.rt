@@ -2,6 +2,7 @@
 use crate::code;
 use plane::Plane;
 ghost use mathlib.Core.Path.{_≡_};
+ghost use Rattle.plane.specs.Planes.{byte};
 ghost use Rattle.reduce.specs.Reduce.{reduceFault, reducedOf};
 ghost use Rattle.brinepulley.specs.Coded.{coded, done, planeBy};
 
@@ -21,8 +22,8 @@ pub extern "C" fn brine_reduce(
     stride2: usize,
     origin2: usize,
 ) -> i64
-    ensures { λ r. ⌜ r ≡ coded (done (reduceFault depth factor (planeBy width height stride origin) (now (samples .entry)) (planeBy width2 height2 stride2 origin2) (now (reduced .entry)))) ⌝ }
-    ensures { λ _. ⌜ now (reduced .exit) ≡ reducedOf depth factor (planeBy width height stride origin) (now (samples .entry)) (planeBy width2 height2 stride2 origin2) (now (reduced .entry)) ⌝ }
+    ensures { λ r. ⌜ r ≡ coded (done (reduceFault byte depth factor (planeBy width height stride origin) (now (samples .entry)) (planeBy width2 height2 stride2 origin2) (now (reduced .entry)))) ⌝ }
+    ensures { λ _. ⌜ now (reduced .exit) ≡ reducedOf byte depth factor (planeBy width height stride origin) (now (samples .entry)) (planeBy width2 height2 stride2 origin2) (now (reduced .entry)) ⌝ }
 {
     let p = Plane {
         width,

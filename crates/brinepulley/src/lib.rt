@@ -7,6 +7,7 @@ ghost use Rattle.intra.specs.Costs.{intraOf, workOf, costsOf};
 ghost use Rattle.intra.specs.Threshold.{thresholdOf};
 ghost use Rattle.lent.specs.Lent.{freshFault, freshNumbers, lentStep, numbersAfter, scoresAfter};
 ghost use Rattle.lent.specs.Places.{settingsBy};
+ghost use Rattle.plane.specs.Planes.{byte};
 ghost use Rattle.state.specs.State.{call};
 ghost use Rattle.sad.specs.Difference.{differenceOf, deltaOf};
 ghost use Rattle.satd.specs.Satd.{satdOf};
@@ -17,6 +18,7 @@ use settings::Settings;
 
 pub mod card;
 mod code;
+pub mod deep;
 pub mod frames;
 
 // The factor that Fast mode scales a frame by, 1 for none.
@@ -42,7 +44,7 @@ pub extern "C" fn brine_plane_difference(
     stride2: usize,
     origin2: usize,
 ) -> i64
-    ensures { λ r. ⌜ r ≡ coded (differenceOf depth (planeBy width height stride origin) (now (first .entry)) (planeBy width2 height2 stride2 origin2) (now (second .entry))) ⌝ }
+    ensures { λ r. ⌜ r ≡ coded (differenceOf byte depth (planeBy width height stride origin) (now (first .entry)) (planeBy width2 height2 stride2 origin2) (now (second .entry))) ⌝ }
 {
     let p = Plane {
         width,
@@ -74,7 +76,7 @@ pub extern "C" fn brine_importance_total(
     stride2: usize,
     origin2: usize,
 ) -> i64
-    ensures { λ r. ⌜ r ≡ coded (totalOf depth (planeBy width height stride origin) (now (first .entry)) (planeBy width2 height2 stride2 origin2) (now (second .entry))) ⌝ }
+    ensures { λ r. ⌜ r ≡ coded (totalOf byte depth (planeBy width height stride origin) (now (first .entry)) (planeBy width2 height2 stride2 origin2) (now (second .entry))) ⌝ }
 {
     let p = Plane {
         width,
@@ -107,8 +109,8 @@ pub extern "C" fn brine_delta(
     origin2: usize,
     delta: &mut f64,
 ) -> i64
-    ensures { λ r. ⌜ r ≡ coded (status (deltaOf depth (planeBy width height stride origin) (now (first .entry)) (planeBy width2 height2 stride2 origin2) (now (second .entry)))) ⌝ }
-    ensures { λ _. ⌜ now (delta .exit) ≡ heldAfter (deltaOf depth (planeBy width height stride origin) (now (first .entry)) (planeBy width2 height2 stride2 origin2) (now (second .entry))) (now (delta .entry)) ⌝ }
+    ensures { λ r. ⌜ r ≡ coded (status (deltaOf byte depth (planeBy width height stride origin) (now (first .entry)) (planeBy width2 height2 stride2 origin2) (now (second .entry)))) ⌝ }
+    ensures { λ _. ⌜ now (delta .exit) ≡ heldAfter (deltaOf byte depth (planeBy width height stride origin) (now (first .entry)) (planeBy width2 height2 stride2 origin2) (now (second .entry))) (now (delta .entry)) ⌝ }
 {
     let p = Plane {
         width,
@@ -144,8 +146,8 @@ pub extern "C" fn brine_importance(
     origin2: usize,
     importance: &mut f64,
 ) -> i64
-    ensures { λ r. ⌜ r ≡ coded (status (importanceOf depth (planeBy width height stride origin) (now (first .entry)) (planeBy width2 height2 stride2 origin2) (now (second .entry)))) ⌝ }
-    ensures { λ _. ⌜ now (importance .exit) ≡ heldAfter (importanceOf depth (planeBy width height stride origin) (now (first .entry)) (planeBy width2 height2 stride2 origin2) (now (second .entry))) (now (importance .entry)) ⌝ }
+    ensures { λ r. ⌜ r ≡ coded (status (importanceOf byte depth (planeBy width height stride origin) (now (first .entry)) (planeBy width2 height2 stride2 origin2) (now (second .entry)))) ⌝ }
+    ensures { λ _. ⌜ now (importance .exit) ≡ heldAfter (importanceOf byte depth (planeBy width height stride origin) (now (first .entry)) (planeBy width2 height2 stride2 origin2) (now (second .entry))) (now (importance .entry)) ⌝ }
 {
     let p = Plane {
         width,
@@ -181,9 +183,9 @@ pub extern "C" fn brine_intra_costs(
     origin2: usize,
     costs: &mut [u32],
 ) -> i64
-    ensures { λ r. ⌜ r ≡ coded (intraOf depth (planeBy width height stride origin) (now (samples .entry)) (planeBy width2 height2 stride2 origin2) (now (work .entry)) (now (costs .entry))) ⌝ }
-    ensures { λ _. ⌜ now (work .exit) ≡ workOf depth (planeBy width height stride origin) (now (samples .entry)) (planeBy width2 height2 stride2 origin2) (now (work .entry)) (now (costs .entry)) ⌝ }
-    ensures { λ _. ⌜ now (costs .exit) ≡ costsOf depth (planeBy width height stride origin) (now (samples .entry)) (planeBy width2 height2 stride2 origin2) (now (work .entry)) (now (costs .entry)) ⌝ }
+    ensures { λ r. ⌜ r ≡ coded (intraOf byte depth (planeBy width height stride origin) (now (samples .entry)) (planeBy width2 height2 stride2 origin2) (now (work .entry)) (now (costs .entry))) ⌝ }
+    ensures { λ _. ⌜ now (work .exit) ≡ workOf byte depth (planeBy width height stride origin) (now (samples .entry)) (planeBy width2 height2 stride2 origin2) (now (work .entry)) (now (costs .entry)) ⌝ }
+    ensures { λ _. ⌜ now (costs .exit) ≡ costsOf byte depth (planeBy width height stride origin) (now (samples .entry)) (planeBy width2 height2 stride2 origin2) (now (work .entry)) (now (costs .entry)) ⌝ }
 {
     let p = Plane {
         width,
