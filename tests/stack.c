@@ -50,7 +50,8 @@ static void call_reduced(void)
 
 static void call_reduced_deep(void)
 {
-    answer = ((int64_t (*)(uint32_t, size_t, DEEP, DEEP))callee)(10, 2, deep_first, COUNT, 130, 18, 130, 0, deep_second, COUNT, 65, 9, 65, 0);
+    answer = ((int64_t (*)(uint32_t, size_t, DEEP, DEEP))callee)(10, 2, deep_first, COUNT, 130, 18, 130, 0, deep_second, COUNT,
+                                                                 65, 9, 65, 0);
 }
 
 static void call_planes(void)
@@ -80,7 +81,8 @@ static void call_planes_costs(void)
 
 static void call_deep_costs(void)
 {
-    answer = ((int64_t (*)(uint32_t, DEEP, DEEP, uint32_t *, size_t))callee)(10, LENT(deep_first), LENT(deep_second), costs, BLOCKS);
+    answer = ((int64_t (*)(uint32_t, DEEP, DEEP, uint32_t *, size_t))callee)(10, LENT(deep_first), LENT(deep_second), costs,
+                                                                             BLOCKS);
 }
 
 static void call_costs(void)
