@@ -13,7 +13,7 @@
  *    2  a plane needs more samples than were lent; a list or a block has another length than it must have
  *    3  two planes differ in width or height; a plane to reduce into has other sides than the reduced ones
  *    4  the cost list is shorter than the number of blocks
- *    5  the depth is not 8
+ *    5  the depth is not 8, 10 or 12, or does not suit the plane's word: 8 goes with uint8_t, 10 and 12 with uint16_t
  *    6  a side of the resolution is outside 1 to 8,192, or the mode is not 0, 1 or 2; a factor is none of 1, 2, 4, 8, 16 and 32
  *    7  the frame number is 0, or 2^32 or more, or below the previous keyframe's, or not one above the last call's
  *    8  a set has more than BRINE_SET_LIMIT frames, or more than the last call's
@@ -24,6 +24,7 @@
  *   13  the cut of a record is above 1
  *   14  the number of a record is not above that of the record before it
  *   15  no room to write
+ *   16  a visible sample is at or above 2 to the depth, which a sample of uint16_t can be
  *
  * What is lent. A pointer is followed by its length, counted in elements. The pointer is aligned for its type. A list of
  * length 0 may be NULL. The places of single results, the `double *` ones and `torn`, are never NULL. A place that a function
@@ -33,9 +34,10 @@
  * Stack. A measure takes 2 KiB of it at most, with all that it calls (the tests hold it to that; docs/SPEED.md has each one's
  * bytes). brine_detector_step takes 5.6 KB, and what memcpy and memset take.
  *
- * A plane is a pointer to 8 bit samples, their number, then width, height, stride and origin: sample (x, y) is
+ * A plane is a pointer to samples, their number, then width, height, stride and origin: sample (x, y) is
  * samples[origin + y * stride + x]. Samples outside the plane's width and height are never read or written. Where a function
- * takes two planes, the numbers of the second end in 2. `depth` is the bits of a sample; 8 is the only depth so far.
+ * takes two planes, the numbers of the second end in 2. `depth` is the bits of a sample: 8 of uint8_t, 10 or 12 of uint16_t. A
+ * function for the second word has its name with 16 behind it.
  */
 #ifndef BRINEPULLEY_H
 #define BRINEPULLEY_H
@@ -127,6 +129,41 @@ int64_t brine_hadamard8x8(int32_t *list, size_t len);
  * Refusals: 2, where a length is not 64. */
 int64_t brine_satd8x8(const uint8_t *first, size_t first_len, const uint8_t *second, size_t second_len);
 
+/* The same of deeper samples: each of these does what the function of its name without 16 does, at the depths 10 and 12 alone. Its
+ * last refusal is 16. Every visible sample counts for it, in a whole block or square or not, but of the planes that are measured
+ * or reduced alone: one that is written is not looked at. */
+
+/* Refusals: 6; 5; 1 and 2 of the plane, 1 and 2 of the lent one; 3; 16. Then the lent plane is as it was. */
+int64_t brine_reduce16(uint32_t depth, size_t factor,
+    const uint16_t *samples, size_t samples_len, size_t width, size_t height, size_t stride, size_t origin,
+    uint16_t *reduced, size_t reduced_len, size_t width2, size_t height2, size_t stride2, size_t origin2);
+
+/* Refusals of these four: 5; 1 and 2 of the first plane; 1 and 2 of the second; 3; 16 of either. */
+int64_t brine_plane_difference16(uint32_t depth,
+    const uint16_t *first, size_t first_len, size_t width, size_t height, size_t stride, size_t origin,
+    const uint16_t *second, size_t second_len, size_t width2, size_t height2, size_t stride2, size_t origin2);
+int64_t brine_importance_total16(uint32_t depth,
+    const uint16_t *first, size_t first_len, size_t width, size_t height, size_t stride, size_t origin,
+    const uint16_t *second, size_t second_len, size_t width2, size_t height2, size_t stride2, size_t origin2);
+int64_t brine_delta16(uint32_t depth,
+    const uint16_t *first, size_t first_len, size_t width, size_t height, size_t stride, size_t origin,
+    const uint16_t *second, size_t second_len, size_t width2, size_t height2, size_t stride2, size_t origin2,
+    double *delta);
+int64_t brine_importance16(uint32_t depth,
+    const uint16_t *first, size_t first_len, size_t width, size_t height, size_t stride, size_t origin,
+    const uint16_t *second, size_t second_len, size_t width2, size_t height2, size_t stride2, size_t origin2,
+    double *importance);
+
+/* For 128 it has 128 * 2^(depth - 8): 512 at depth 10, 2,048 at depth 12.
+ * Refusals: 5; 1 and 2 of the plane; 1 and 2 of the work plane; 3; 4; 16. Then the work plane and the costs are as they were. */
+int64_t brine_intra_costs16(uint32_t depth,
+    const uint16_t *samples, size_t samples_len, size_t width, size_t height, size_t stride, size_t origin,
+    uint16_t *work, size_t work_len, size_t width2, size_t height2, size_t stride2, size_t origin2,
+    uint32_t *costs, size_t costs_len);
+
+/* It has no depth: samples up to 65,535 are taken. Refusals: 2, where a length is not 64. */
+int64_t brine_satd8x8_16(const uint16_t *first, size_t first_len, const uint16_t *second, size_t second_len);
+
 /* ---- the detector ---- */
 
 /* How many scores a state has room for, and the most frames of a set. While a first call decides there may be as many scores
@@ -168,17 +205,18 @@ enum brine_double {
     BRINE_THRESHOLD
 };
 
-/* A fresh detector for frames of width * height samples, before Fast mode reduces them. `lookahead` is the lookahead distance:
- * 5 or more has the detector look five pairs ahead, less has it look at none. `min` and `max` are the distances of keyframes:
- * below `min` there is no cut; else from `max` on there is one, if the set has six frames or more or the lookahead is below 5.
- * Any number is taken for the three.
+/* A fresh detector for frames of width * height samples, before Fast mode reduces them, of depth 8, 10 or 12. What Fast mode's
+ * costs and Standard mode's importances must reach follows from the depth: 18 and 7, 22.5 and 8.75, 27 and 10.5. `lookahead` is
+ * the lookahead distance: 5 or more has the detector look five pairs ahead, less has it look at none. `min` and `max` are the
+ * distances of keyframes: below `min` there is no cut; else from `max` on there is one, if the set has six frames or more or the
+ * lookahead is below 5. Any number is taken for the three.
  * Returns 0, and all the numbers are written; there is no score yet, so `scores` is not written.
  * Refusals: 11, where numbers_len is not BRINE_NUMBERS or scores_len not BRINE_SCORES; 6; 5. Then nothing is written. */
 int64_t brine_detector_fresh(size_t width, size_t height, uint32_t depth, size_t lookahead, uint32_t mode,
     uint64_t min, uint64_t max, uint64_t *numbers, size_t numbers_len, double *scores, size_t scores_len);
 
 /* What the step does not report, by the rules (docs/COMMAND.md has examples). A pair is large where its inter cost is at or
- * above its threshold, which is 18 in Fast mode.
+ * above its threshold, which in Fast mode is (18 * depth) / 8: 18, 22.5 or 27.
  *   - With a lookahead of 5 or more a set of five frames or fewer gets 0, from distance `max` on too. So wait until a set
  *     has seven frames; a film's last four get no decision. A first set of six is decided on by the pair after its own.
  *   - Then, of two large pairs 1 to 4 frames apart neither is a cut in Fast mode, 5 apart (or 4, in a set of six) the first

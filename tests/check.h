@@ -13,6 +13,10 @@ struct test {
 
 /* Lists of tests, each closed by a test without a name. */
 extern const struct test plane_tests[];
+extern const struct test deep_tests[];
+extern const struct test deep_reduce_tests[];
+extern const struct test deep_intra_tests[];
+extern const struct test depth_tests[];
 extern const struct test reduce_tests[];
 extern const struct test reduce_refused_tests[];
 extern const struct test intra_tests[];

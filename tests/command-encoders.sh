@@ -6,15 +6,15 @@ sea='50 52 51 50 53 50 90 92 91 90 93 90 91 93 90 92 90'
 awk 'BEGIN { while (n++ < 16) print n == 6 ? 40 : n % 5 }' > "$room/encoded.costs"
 by_costs="--mode standard --inter $room/encoded.costs"
 
-# What the plain film says: a cut at 6, in each mode with scores.
-plain() { # WIDTH HEIGHT
-    film header "W$1 H$2 Cmono" FRAME $sea > "$encoded"
-    cuts_at "a plain film of $1 × $2" "0 6" "$encoded"
+# What the plain film says: a cut at 6, in each mode with scores. BITS are those of a sample; none stands for 8.
+plain() { # WIDTH HEIGHT BITS
+    film header "W$1 H$2 Cmono${3-}" FRAME $sea > "$encoded"
+    cuts_at "a plain film of $1 × $2 ${3-}" "0 6" "$encoded"
     cp "$room/out" "$room/plain.fast"
     command_run decide "$encoded" --csv $by_costs
     cp "$room/out" "$room/plain.standard"
     [ "$status" = 0 ] && [ "$(wc -l < "$room/out")" = 18 ]
-    verdict "a plain film of $1 × $2 in standard mode" $?
+    verdict "a plain film of $1 × $2 ${3-} in standard mode" $?
 }
 
 # A film with this header and this line before each frame answers as the plain one.
@@ -61,6 +61,30 @@ reads '  W65   H47  C420jpeg  ' 'FRAME  Ip   XTIME=12:00 XWIND=9 '
 reads 'W65 H47 C420 X X X=' 'FRAME X'
 reads 'W00065 H047 Z1 Cmono' 'FRAME W1 H1 C444'
 reads "W65 H47 C444 $(awk 'BEGIN { while (n++ < 100) printf "XNOTE=%d ", n }')" FRAME
+
+# Films of 10 and 12 bits, with two bytes a sample in luma and in chroma. Luma has another high byte from the cut on.
+sea_8=$sea
+for bits in 10 12; do
+    sea=$(echo "$sea_8" | awk -v high=$((bits == 10 ? 180 : 700)) '{ for (i = 1; i <= NF; i++) $i += high + ($i > 80 ? 300 : 0); print }')
+    for sides in '65 47' '64 48' '63 1' '1 1' '483 243'; do
+        w=${sides% *} h=${sides#* }
+        # shellcheck disable=SC2086 # two words
+        plain $sides $bits
+        # ffmpeg: each pixel format, of both ranges, and interlaced in each way
+        for colour in 420 422 444; do
+            reads "W$w H$h F25:1 Ip A1:1 C${colour}p$bits XYSCSS=${colour}P$bits XCOLORRANGE=LIMITED" FRAME
+        done
+        reads "W$w H$h F30000:1001 It A10:11 C420p$bits XYSCSS=420P$bits XCOLORRANGE=FULL" FRAME
+        reads "W$w H$h F25:1 Ib A16:15 C422p$bits XYSCSS=422P$bits XCOLORRANGE=LIMITED" FRAME
+        reads "W$w H$h F25:1 Im A0:1 C444p$bits XYSCSS=444P$bits" 'FRAME Itpp'
+        reads "W$w H$h F25:1 Ip A0:1 Cmono$bits XYSCSS=400 XCOLORRANGE=FULL" FRAME
+        # vspipe, aomdec and dav1d
+        reads "C420p$bits W$w H$h F24000:1001 Ip A0:0 XLENGTH=17" FRAME
+        reads "W$w H$h F30:1 Ip C420p$bits XYSCSS=420P$bits" FRAME
+        reads "W$w H$h F1:600 Ip C444p$bits" FRAME
+    done
+done
+sea=$sea_8
 
 # ffmpeg itself, where it is: two scenes that it draws, in each pixel format and for an odd size. It takes the luma out of them, as a
 # gray film, and both films have the same answers.

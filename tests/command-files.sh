@@ -71,9 +71,12 @@ lines"
 ends "a name of two lines" 2 'two\\x0Alines: its width' decide "$room/two
 lines"
 
-for colour in 420p10 422p12 444p16 mono10; do
+for colour in 420p9 420p11 422p14 444p16 mono9 mono16 mono64; do
     printf 'YUV4MPEG2 W16 H16 C%s\nFRAME\n' "$colour" > "$bad"
-    ends "high depth $colour is refused" 1 "samples of [0-9]* bits, and only 8 are taken (refusal 5)" decide "$bad"
+    for mode in fast none; do
+        ends "depth $colour is refused in $mode mode" 1 \
+            "bad.y4m: samples of ${colour##*[op]} bits, and only 8, 10 and 12 are taken (refusal 5)" decide "$bad" --mode $mode
+    done
 done
 while read -r sides told; do
     printf 'YUV4MPEG2 %s\nFRAME\n' "$(echo "$sides" | tr , ' ')" > "$bad"
@@ -143,12 +146,14 @@ printf 'P5 16 x 255\n' > "$q"
 ends "a PGM header that is none" 2 "PGM header" measure "$p" "$q"
 ends "a folder for a picture" 2 "$room: Is a directory" measure "$p" "$room"
 ends "a folder for the first picture" 2 "$room: Is a directory" measure "$room" "$p"
-for largest in 254 65536; do
+for largest in 0 100 254 256 511 1022 1024 2047 4094 4096 65535 65536; do
     film pgm 16 16 $largest 50 > "$q"
-    ends "a largest value of $largest" 2 "largest value is $largest, not 255" measure "$p" "$q"
+    for pictures in "$p $q" "$q $p"; do
+        # shellcheck disable=SC2086 # two words
+        ends "a largest value of $largest" 2 "q.pgm: its largest value is $largest, and only 255, 1023 and 4095 are taken" \
+            measure $pictures
+    done
 done
-film pgm 16 16 100 50 > "$q"
-ends "a largest value of 100" 2 "largest value is 100" measure "$p" "$q"
 head -c 100 "$p" > "$q"
 ends "a picture cut short" 2 "cut short" measure "$p" "$q"
 { cat "$p"; echo; } > "$q"
@@ -167,6 +172,3 @@ done << 'END'
 12345678901,1 width of 12345678901
 99999999999999999999999,1 width of 18446744073709551615 or more
 END
-printf 'P5 4 1 65535\nabcdefgh' > "$q"
-ends "samples of 16 bits are refused" 1 "q.pgm: samples of 16 bits, and only 8 are taken (refusal 5)" measure "$p" "$q"
-ends "samples of 16 bits, in the first picture" 1 "q.pgm: samples of 16 bits, and only 8 are taken (refusal 5)" measure "$q" "$p"

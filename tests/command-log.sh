@@ -106,8 +106,8 @@ verdict "frame 2^32 on the way: the log has what was decided before" $?
 spares "behind the last number" 1 "frame 1 cannot follow its last record, frame 4294967295 (refusal 14)" decide "$flat" --log "$log"
 
 # Films that are refused or broken.
-printf 'YUV4MPEG2 W16 H16 C420p10\nFRAME\n' > "$bad"
-makes_none "a film of 10 bits" 1 "(refusal 5)" decide "$bad"
+printf 'YUV4MPEG2 W16 H16 C420p9\nFRAME\n' > "$bad"
+makes_none "a film of 9 bits" 1 "(refusal 5)" decide "$bad"
 printf 'YUV4MPEG2 W0 H16\nFRAME\n' > "$bad"
 makes_none "a film without width" 1 "(refusal 6)" decide "$bad"
 printf 'YUV4MPEG2 W16 H16\n' > "$bad"

@@ -128,7 +128,9 @@ provoke() {
     brinepulley decide film.y4m --log scores.log --first 26
     awk 'BEGIN { while (n++ < 39) print n == 15 ? "nan" : n }' > costs.txt
     brinepulley decide film.y4m --mode standard --inter costs.txt
-    film y4m 64 48 420p10 50 > film.y4m
+    film y4m 64 48 420p14 50 > film.y4m
+    brinepulley decide film.y4m
+    film y4m 64 48 mono10 50 50 1024 > film.y4m
     brinepulley decide film.y4m
 }
 mkdir "$room/provoked"

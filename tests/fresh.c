@@ -46,20 +46,24 @@ static void refusals(void)
     REFUSED(6, c.mode = UINT32_MAX);
     REFUSED(5, c.depth = 0);
     REFUSED(5, c.depth = 7);
-    REFUSED(5, c.depth = 10);
+    REFUSED(5, c.depth = 9);
+    REFUSED(5, c.depth = 11);
+    REFUSED(5, c.depth = 13);
+    REFUSED(5, c.depth = 16);
+    REFUSED(5, c.depth = 256 + 10);
 }
 
 static void order(void)
 {
-    REFUSED(11, c.numbers_len = BRINE_NUMBERS - 1, c.width = 0, c.depth = 10);
+    REFUSED(11, c.numbers_len = BRINE_NUMBERS - 1, c.width = 0, c.depth = 9);
     REFUSED(11, c.scores_len = BRINE_SCORES + 1, c.mode = 3);
-    REFUSED(6, c.height = 0, c.depth = 10);
+    REFUSED(6, c.height = 0, c.depth = 9);
 }
 
 /* All the numbers, and not one of the scores. */
 static void fresh_is(struct call c, uint64_t offset)
 {
-    uint64_t want[BRINE_NUMBERS + 1] = {c.width, c.height, 8, c.lookahead, c.mode, c.min, c.max, offset};
+    uint64_t want[BRINE_NUMBERS + 1] = {c.width, c.height, c.depth, c.lookahead, c.mode, c.min, c.max, offset};
     EXPECT_NUMBER(called(c), 0);
     memcpy(want + BRINE_NUMBERS, numbers.kept + GUARD + BRINE_NUMBERS * sizeof(uint64_t), sizeof(uint64_t));
     EXPECT(lent_holds(&numbers, want));
@@ -71,9 +75,11 @@ static void lent_places(void)
     struct call c = good;
     fresh_is(c, 5);
     c.lookahead = 4;
+    c.depth = 10;
     fresh_is(c, 0);
     c.lookahead = 0;
     c.mode = NONE;
+    c.depth = 12;
     fresh_is(c, 0);
     c.lookahead = SIZE_MAX;
     c.min = c.max = UINT64_MAX;

@@ -40,7 +40,8 @@ mkdir -p "$place"
 
 # Words that the readers look for.
 for word in YUV4MPEG2 'FRAME\x0a' ' W16' ' H16' ' W8192' ' H8193' ' F1:600' ' F30000:1001' ' F0:0' ' Ip' ' It' ' Im' ' A1:1' ' A0:0' \
-    ' C420' jpeg mpeg2 paldv ' C422' ' C444' ' Cmono' ' C420p10' alpha ' XNOTE=' ' XYSCSS=' ' Itpp' 'P5 ' '# \x0a' '255\x0a' \
+    ' C420' jpeg mpeg2 paldv ' C422' ' C444' ' Cmono' ' C420p10' p12 ' Cmono12' alpha ' XNOTE=' ' XYSCSS=' ' Itpp' 'P5 ' '# \x0a' '255\x0a' \
+    '1023\x0a' '4095\x0a' \
     18446744073709551615 4294967296 e308 nan -inf 0x1p 1e-400 SC '\x0a' decide measure demo --help --version -h --mode --lookahead \
     --min --max --first --inter --log --csv --purge --times --cuts --bars fast standard none film.y4m costs.txt a.pgm b.pgm scores.log \
     new.log -- - =; do
@@ -53,7 +54,7 @@ seed() { mkdir -p "$place/seeds/$1" && cat > "$place/seeds/$1/$2"; } # TARGET NA
 bytes() { printf '%b' "$(printf '\\0%o' "$@")"; }
 rm -rf "$place/seeds"
 sea='50 50 50 50 50 50 90 90 90 90 90 90 90'
-for colour in - 420jpeg 422 444 mono; do
+for colour in - 420jpeg 422 444 mono 420p10 422p12 444p10 mono12; do
     # shellcheck disable=SC2086 # frames
     {
         { bytes 0 4 0 0 1 0 0 0; film y4m 3 5 "$colour" $sea; } | seed film "fast-$colour"
@@ -64,13 +65,17 @@ for colour in - 420jpeg 422 444 mono; do
     }
 done
 { bytes 0 4 0 0 1 0 0 0; film y4m 8193 1 420p10 1; } | seed film refused
+{ bytes 0 4 0 0 1 0 0 0; film y4m 3 5 mono10 50 1023 1024 50; } | seed film too-large
+{ bytes 2 4 0 0 1 0 0 0; film y4m 3 5 mono14 50 50; } | seed film too-deep
 { bytes 0 1 0 0 1 0 0 0; film y4m 63 49 444 50 90; } | seed film larger
-for how in 0 5 2 199 196; do
+for how in 0 5 2 199 196 8 18 204 215; do
     { bytes "$how" 5 3 17; echo 'the sea, and some more of it'; } | seed sides "$how"
 done
 { bytes 0 4; printf '1\n2.5e0\n 3\r\n4e-3\n0\n6\n7\n8\n'; } | seed costs rising
 { bytes 1 0; printf '1\nnan\n-1\ninf\n0x1p3\n1e999\n'; } | seed costs refused
 { bytes 30 1 0; film pgm 16 16 255 50; film pgm 16 16 255 57/58; } | seed pictures alike
+{ bytes 31 2 0; film pgm 16 16 1023 500; film pgm 16 16 1023 1023/7; } | seed pictures deep
+{ bytes 14 0 1; printf 'P5 1 1 4095\n\020\000P5\n#\n1 1\n4095\nab'; } | seed pictures too-large
 { bytes 12 0 1; printf 'P5 1 1 255\n\001P5\n#\n2 2\n255\nabcd'; } | seed pictures unlike
 film log 0 1 2 7 | { bytes 0; cat; } | seed log few
 # shellcheck disable=SC2046 # numbers

@@ -83,9 +83,18 @@ void add_log(struct line *line, unsigned bits, unsigned torn)
     line_add(line, "scores.log");
 }
 
-void put_drawn(const char *name, const char *header, const char *line, size_t frames, size_t samples, struct bytes input)
+/* Takes from each sample of two bytes the bits that it may not have. */
+static void bound(uint8_t *at, size_t count, struct form form)
 {
-    const size_t head = strlen(header), between = strlen(line), frame = between + samples;
+    for (size_t i = form.high_first ? 0 : 1; form.depth > 8 && i < count; i += 2)
+        at[i] &= (uint8_t)((1u << (form.depth - 8)) - 1);
+}
+
+void put_drawn(const char *name, const char *header, const char *line, size_t frames, size_t samples, struct form form,
+               struct bytes input)
+{
+    const size_t count = samples * (form.depth > 8 ? 2 : 1);
+    const size_t head = strlen(header), between = strlen(line), frame = between + count;
     uint8_t *const at = calloc(head + frames * frame, 1);
     memcpy(at, header, head);
     for (size_t i = 0; i < frames; i++) {
@@ -93,12 +102,13 @@ void put_drawn(const char *name, const char *header, const char *line, size_t fr
         memcpy(to, line, between);
         to += between;
         draw(&input);
-        size_t done = input.count < samples ? input.count : samples;
+        size_t done = input.count < count ? input.count : count;
         memcpy(to, input.at, done);
-        for (size_t more = 0; done > 0 && done < samples; done += more) {
-            more = done < samples - done ? done : samples - done;
+        for (size_t more = 0; done > 0 && done < count; done += more) {
+            more = done < count - done ? done : count - done;
             memcpy(to + done, to, more);
         }
+        bound(to, count, form);
     }
     room_put(name, (struct bytes){at, head + frames * frame});
     free(at);

@@ -12,8 +12,16 @@ unsigned draw(struct bytes *input);
 /* The input's first `count` bytes, as many as there are. */
 struct bytes part(struct bytes *input, size_t count);
 
-/* A film or a picture: its header, and frames that are the input's bytes over and over, each a byte further on. */
-void put_drawn(const char *name, const char *header, const char *line, size_t frames, size_t samples, struct bytes input);
+/* How samples stand in a file: their bits, where these are more than 8 two bytes each, and whether the high one is the first. */
+struct form {
+    unsigned depth;
+    bool high_first;
+};
+
+/* A film or a picture: its header, and frames that are the input's bytes over and over, each a byte further on. Samples that have two
+   bytes are below 2 to the depth. */
+void put_drawn(const char *name, const char *header, const char *line, size_t frames, size_t samples, struct form form,
+               struct bytes input);
 
 /* An option and its value. */
 void add_pair(struct line *line, const char *name, uint64_t value);

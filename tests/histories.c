@@ -46,7 +46,8 @@ void draw_rubbish(void *place, size_t words)
 
 static double draw_inter(uint32_t kind, bool peak)
 {
-    static const double edges[] = {0.0, -0.0, 5e-324, DBL_MIN, 1e-9, 7, 17.999999999999996, 18, 1e18, DBL_MAX / 2, DBL_MAX};
+    static const double edges[] = {0.0,  -0.0, 5e-324, DBL_MIN, 1e-9, 7, 17.999999999999996, 18, 22.499999999999996, 22.5,
+                                   26.999999999999996, 27, 1e18, DBL_MAX / 2, DBL_MAX};
     if (kind == EDGES || one_in(64))
         return edges[draw(COUNT_OF(edges))];
     if (kind == TIES)
@@ -60,8 +61,8 @@ static double draw_inter(uint32_t kind, bool peak)
 
 static double draw_importance(void)
 {
-    static const double edges[] = {NAN, 0.0, -0.0, 6.999999999999999, 7, DBL_MAX};
-    return one_in(8) ? edges[draw(COUNT_OF(edges))] : draw(16) * 0.5;
+    static const double edges[] = {NAN, 0.0, -0.0, 6.999999999999999, 7, 8.749999999999998, 8.75, 10.499999999999998, 10.5, DBL_MAX};
+    return one_in(8) ? edges[draw(COUNT_OF(edges))] : draw(24) * 0.5;
 }
 
 static double draw_threshold(void)

@@ -61,6 +61,7 @@ static void refused(struct call c, int64_t number)
 static void refusals(void)
 {
     REFUSED(5, c.depth = 10);
+    REFUSED(5, c.depth = 12);
     REFUSED(5, c.depth = 7);
     REFUSED(1, c.width = 0);
     REFUSED(1, c.height = 8193);

@@ -1,6 +1,6 @@
 /* Demand 3 over random pairs of histories, see docs/MEETING.md: an old detector, and a fresh one that begins later. From the
    fresh one's first call on both accept the same calls. After ten of them in Standard mode, five in Fast, they have met, and
-   they stay met. Refused calls stand anywhere in both histories, and each has its own. */
+   they stay met. Refused calls stand anywhere in both histories, and each has its own. Pairs have the three depths by turns. */
 #include "histories.h"
 
 #include <stddef.h>
@@ -14,11 +14,11 @@ enum { MOST_BEFORE = 30, FURTHER = 20, SHORTEST_SET = 7, KEPT = 10, GUARD_WORDS 
    that is the number behind "of", the lower one of the two modes. */
 enum {
     LEAST_REFUSED = 20000,  /* of 50,221 calls refused with each of 7, 8 and 10: one that changed something would show */
-    LEAST_APART = 500,      /* of 1,170 Standard pairs that nine calls do not bring together: ten are needed */
-    LEAST_OTHER_NANS = 500, /* of 1,840 Standard pairs that meet with a NaN of other bits: these bits do not matter */
-    LEAST_CUTS = 200,       /* of 582 cuts behind the meeting that the scores decided, and not the distance, */
-    LEAST_NO_CUTS = 10000,  /* and of 22,654 such calls without a cut: the answers are not all the same */
-    LEAST_ENDS = 100        /* of 592 pairs that come to the last number, 2^32 - 1: no call is left then */
+    LEAST_APART = 500,      /* of 1,179 Standard pairs that nine calls do not bring together: ten are needed */
+    LEAST_OTHER_NANS = 500, /* of 1,550 Standard pairs that meet with a NaN of other bits: these bits do not matter */
+    LEAST_CUTS = 200,       /* of 799 cuts behind the meeting that the scores decided, and not the distance, */
+    LEAST_NO_CUTS = 10000,  /* and of 22,677 such calls without a cut: the answers are not all the same */
+    LEAST_ENDS = 100        /* of 595 pairs that come to the last number, 2^32 - 1: no call is left then */
 };
 
 _Static_assert(MOST_BEFORE + STANDARD_CALLS + FURTHER + BRINE_SET_LIMIT < FILM_PAIRS, "the film is long enough");
@@ -39,7 +39,7 @@ struct history {
 
 static struct film film;
 static struct history old, fresh;
-static uint32_t mode;
+static uint32_t mode, depth;
 
 /* What was seen, over all pairs of a mode. */
 static struct {
@@ -195,7 +195,7 @@ static bool make_both(void)
         struct places *const now = &both[i]->now;
         draw_rubbish(now, sizeof *now / sizeof(uint64_t));
         both[i]->last = both[i]->length = 0;
-        if (!EXPECT_NUMBER(brine_detector_fresh(width, height, 8, lookahead, mode, min, max, now->numbers, BRINE_NUMBERS,
+        if (!EXPECT_NUMBER(brine_detector_fresh(width, height, depth, lookahead, mode, min, max, now->numbers, BRINE_NUMBERS,
                                                 now->scores, BRINE_SCORES), 0))
             return false;
     }
@@ -231,12 +231,14 @@ static bool pair_meets(void)
 /* All pairs of a mode, up to the first that fails; and what they must have brought. */
 static bool all_pairs(uint32_t of_mode)
 {
+    static const uint32_t depths[] = {8, 10, 12};
     size_t pairs = 0;
     mode = of_mode;
     memset(&seen, 0, sizeof seen);
-    do
+    do {
+        depth = depths[pairs % 3];
         draw_from((uint64_t)mode << 32 | pairs);
-    while (pair_meets() && ++pairs < PAIRS);
+    } while (pair_meets() && ++pairs < PAIRS);
     if (!EXPECT_NUMBER((int64_t)pairs, PAIRS))
         return false;
     EXPECT(seen.refused[7] >= LEAST_REFUSED && seen.refused[8] >= LEAST_REFUSED && seen.refused[10] >= LEAST_REFUSED);

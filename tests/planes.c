@@ -73,7 +73,8 @@ static void refusal_5(void)
     struct plane bad = good(0);
     bad.width = 0;
     refused_by_all(0, good(0), good(900), 5);
-    refused_by_all(10, good(0), good(900), 5);
+    refused_by_all(10, good(0), good(900), 5); /* a depth of other words */
+    refused_by_all(12, good(0), good(900), 5);
     refused_by_all(9, bad, bad, 5); /* before 1 */
     refused_by_all(UINT32_MAX, good(0), good(900), 5);
 }

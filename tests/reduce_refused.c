@@ -34,6 +34,7 @@ static void refusals(void)
 {
     REFUSED(5, c.depth = 0);
     REFUSED(5, c.depth = 10);
+    REFUSED(5, c.depth = 12);
     REFUSED(5, c.depth = UINT32_MAX);
     REFUSED(1, c.width = 0);
     REFUSED(1, c.height = 0);

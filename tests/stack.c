@@ -17,6 +17,7 @@ enum { RETURN_ADDRESS = 0 };
 #endif
 
 static uint8_t first[COUNT], second[COUNT];
+static uint16_t deep_first[COUNT], deep_second[COUNT]; /* of 10 bits */
 static uint32_t costs[BLOCKS];
 static int32_t list[64];
 static double real;
@@ -32,6 +33,7 @@ static int64_t nothing(void)
 }
 
 #define PLANE const uint8_t *, size_t, size_t, size_t, size_t, size_t
+#define DEEP const uint16_t *, size_t, size_t, size_t, size_t, size_t
 #define LENT(samples) samples, COUNT, WIDTH, HEIGHT, WIDTH, 0
 
 static void call_sides(void)
@@ -46,9 +48,20 @@ static void call_reduced(void)
                                                                    0);
 }
 
+static void call_reduced_deep(void)
+{
+    answer = ((int64_t (*)(uint32_t, size_t, DEEP, DEEP))callee)(10, 2, deep_first, COUNT, 130, 18, 130, 0, deep_second, COUNT,
+                                                                 65, 9, 65, 0);
+}
+
 static void call_planes(void)
 {
     answer = ((int64_t (*)(uint32_t, PLANE, PLANE))callee)(8, LENT(first), LENT(second));
+}
+
+static void call_deep(void)
+{
+    answer = ((int64_t (*)(uint32_t, DEEP, DEEP))callee)(10, LENT(deep_first), LENT(deep_second));
 }
 
 static void call_planes_real(void)
@@ -56,9 +69,20 @@ static void call_planes_real(void)
     answer = ((int64_t (*)(uint32_t, PLANE, PLANE, double *))callee)(8, LENT(first), LENT(second), &real);
 }
 
+static void call_deep_real(void)
+{
+    answer = ((int64_t (*)(uint32_t, DEEP, DEEP, double *))callee)(10, LENT(deep_first), LENT(deep_second), &real);
+}
+
 static void call_planes_costs(void)
 {
     answer = ((int64_t (*)(uint32_t, PLANE, PLANE, uint32_t *, size_t))callee)(8, LENT(first), LENT(second), costs, BLOCKS);
+}
+
+static void call_deep_costs(void)
+{
+    answer = ((int64_t (*)(uint32_t, DEEP, DEEP, uint32_t *, size_t))callee)(10, LENT(deep_first), LENT(deep_second), costs,
+                                                                             BLOCKS);
 }
 
 static void call_costs(void)
@@ -81,6 +105,11 @@ static void call_blocks(void)
     answer = ((int64_t (*)(const uint8_t *, size_t, const uint8_t *, size_t))callee)(first, 64, second, 64);
 }
 
+static void call_blocks_deep(void)
+{
+    answer = ((int64_t (*)(const uint16_t *, size_t, const uint16_t *, size_t))callee)(deep_first, 64, deep_second, 64);
+}
+
 static const struct measure {
     const char *name;
     any *function, *call;
@@ -96,6 +125,13 @@ static const struct measure {
     {"brine_hadamard4x4", (any *)brine_hadamard4x4, call_list16},
     {"brine_hadamard8x8", (any *)brine_hadamard8x8, call_list64},
     {"brine_satd8x8", (any *)brine_satd8x8, call_blocks},
+    {"brine_reduce16", (any *)brine_reduce16, call_reduced_deep},
+    {"brine_plane_difference16", (any *)brine_plane_difference16, call_deep},
+    {"brine_importance_total16", (any *)brine_importance_total16, call_deep},
+    {"brine_delta16", (any *)brine_delta16, call_deep_real},
+    {"brine_importance16", (any *)brine_importance16, call_deep_real},
+    {"brine_intra_costs16", (any *)brine_intra_costs16, call_deep_costs},
+    {"brine_satd8x8_16", (any *)brine_satd8x8_16, call_blocks_deep},
     {0},
 };
 
@@ -133,6 +169,8 @@ int main(void)
     for (size_t i = 0; i < COUNT; i++) {
         first[i] = (uint8_t)(i * i / 7);
         second[i] = (uint8_t)(i * 31);
+        deep_first[i] = (uint16_t)(i * i / 7 % 1024);
+        deep_second[i] = (uint16_t)(i * 31 % 1024);
     }
     for (const struct measure *m = measures; m->name != NULL; m++) {
         size_t callers = used((any *)nothing, m->call);

@@ -18,8 +18,8 @@ told "$ARCHIVE" > "$room/rows"
 verdict "the depth of every function can be told" $?
 depths "$room/rows" > "$room/depths"
 awk '/^\/\* ---- /{ on = /---- measures ----/ } on' "$header" | grep -oE '\bbrine_[a-z0-9_]+ *\(' | tr -d ' (' | sort -u > "$room/measures"
-[ "$(wc -l < "$room/measures")" -ge 11 ]
-verdict "the header declares eleven measures or more" $?
+[ "$(wc -l < "$room/measures")" -ge 18 ]
+verdict "the header declares eighteen measures or more" $?
 cut -d ' ' -f 1 "$room/depths" | sort > "$room/names"
 comm -23 "$room/measures" "$room/names" > "$room/log"
 [ ! -s "$room/log" ]
@@ -50,10 +50,10 @@ verdict "it runs every measure" $?
 awk 'NR == FNR { told[$1] = $2; next } !($1 in told) || $2 > told[$1]' "$room/depths" "$room/used" > "$room/log"
 [ -s "$room/used" ] && [ ! -s "$room/log" ]
 verdict "a run takes no more than was told" $?
-awk '$1 == "brine_satd8x8" && $2 >= 256 { found = 1 } END { exit !found }' "$room/used"
-verdict "a run of SATD takes 256 bytes or more" $?
-awk '$1 == "brine_reduce" && $2 >= 128 { found = 1 } END { exit !found }' "$room/used"
-verdict "a run of the reduction takes 128 bytes or more" $?
+for measure in brine_satd8x8:256 brine_satd8x8_16:256 brine_reduce:128 brine_reduce16:128; do
+    awk -v name="${measure%:*}" -v least="${measure#*:}" '$1 == name && $2 >= least { found = 1 } END { exit !found }' "$room/used"
+    verdict "a run of ${measure%:*} takes ${measure#*:} bytes or more" $?
+done
 
 # What the tests are to see: compiled functions that take more, or whose stack cannot be told.
 object() { # NAME PROGRAM OPTIONS..

@@ -41,8 +41,11 @@ static void refusal_11_numbers(void)
         refuses_number(sides[i], UINT64_MAX);
     }
     refuses_number(DEPTH, 0);
-    refuses_number(DEPTH, 10);
+    refuses_number(DEPTH, 9);
+    refuses_number(DEPTH, 11);
+    refuses_number(DEPTH, 16);
     refuses_number(DEPTH, ((uint64_t)1 << 32) + 8);
+    refuses_number(DEPTH, ((uint64_t)1 << 32) + 10);
     refuses_number(MODE, 3);
     refuses_number(MODE, ((uint64_t)1 << 32) + 2);
     refuses_number(COUNT, 11);

@@ -79,11 +79,11 @@ void draw_frame(uint8_t *luma, size_t width, size_t height, uint64_t frame)
         }
 }
 
-static enum fetched next_drawn(struct film *film, uint8_t *luma)
+static enum fetched next_drawn(struct film *film, struct plane *luma)
 {
     if (film->frames == FILM_FRAMES)
         return END;
-    draw_frame(luma, film->width, film->height, film->frames);
+    draw_frame(luma->samples, film->width, film->height, film->frames);
     film->frames++;
     return FRAME;
 }

@@ -14,7 +14,7 @@ enum {
 
 void film_open_drawn(struct film *film);
 
-/* Draws one frame, width × height samples. */
+/* Draws one frame, width × height samples of 8 bits. */
 void draw_frame(uint8_t *luma, size_t width, size_t height, uint64_t frame);
 
 #endif

@@ -4,6 +4,7 @@
 
 #include "line.h"
 #include "page.h"
+#include "plane.h"
 
 enum fetched { FRAME, END, BROKEN }; /* BROKEN: the reader has said why */
 
@@ -14,14 +15,15 @@ struct film {
     uint32_t depth;
     struct rate rate;
     uint64_t first; /* the number of its first frame, as the caller counts */
-    /* Puts the next frame's width × height samples at `luma`. */
-    enum fetched (*next)(struct film *film, uint8_t *luma);
+    /* Fills a plane of the film's sides and depth with the next frame. */
+    enum fetched (*next)(struct film *film, struct plane *luma);
     uint64_t frames; /* how many were fetched */
 
     /* a Y4M file's own */
     FILE *file;
     uint32_t colour;  /* how chroma goes with luma: enum colour of y4m.c */
     uint64_t bytes;   /* how many were read, up to the frame in hand */
+    uint64_t begin;   /* the byte at which the last frame that was fetched begins */
     struct line line; /* a header line's room */
 };
 
@@ -30,5 +32,8 @@ struct film {
 enum status film_open_y4m(struct film *film, const char *path);
 
 void film_close(struct film *film);
+
+/* Says that the library refused a sample of the last frame that was fetched. */
+enum status film_refused(const struct film *film, const struct plane *luma, int64_t answer);
 
 #endif

@@ -4,8 +4,11 @@
 
 #include <stdlib.h>
 
-/* Fast mode's threshold, (18 × depth) / 8, and the depth is 8. The detector has its own: this one is for the reader's eye. */
-enum { FAST_THRESHOLD = 18 };
+/* Fast mode's threshold. The detector has its own: this one is for the reader's eye. */
+static double fast_threshold(uint32_t depth)
+{
+    return 18.0 * depth / 8.0;
+}
 
 bool pair_is_large(const struct pair *pair)
 {
@@ -14,31 +17,32 @@ bool pair_is_large(const struct pair *pair)
 
 static bool make_room(struct gauge *gauge)
 {
-    const size_t full = gauge->film->width * gauge->film->height;
-    const size_t reduced = gauge->width * gauge->height;
+    const struct film *film = gauge->film;
+    const size_t width = film->width / gauge->factor, height = film->height / gauge->factor;
 
-    gauge->full = malloc(full);
-    gauge->before = malloc(reduced);
-    gauge->now = malloc(reduced);
-    gauge->work = malloc(reduced);
+    gauge->block_count = (width / 8) * (height / 8);
     gauge->blocks = calloc(gauge->block_count + 1, sizeof *gauge->blocks);
-    return gauge->full && gauge->before && gauge->now && gauge->work && gauge->blocks;
+    return gauge->blocks != NULL && plane_make(&gauge->full, film->width, film->height, film->depth)
+        && plane_make(&gauge->before, width, height, film->depth) && plane_make(&gauge->now, width, height, film->depth)
+        && plane_make(&gauge->work, width, height, film->depth);
 }
 
-/* Fetches a frame into `now`, reduced; *ended where there is none. */
+/* Fetches a frame into `now`, reduced; *ended where there is none. A frame of two bytes a sample is reduced by a factor of 1 too,
+   which copies it: so the library looks at its samples as soon as it is there, in every mode, and it is known which frame is at
+   fault. */
 static enum status fetch(struct gauge *gauge, bool *ended)
 {
     struct film *film = gauge->film;
-    const bool whole = gauge->factor == 1;
-    const enum fetched fetched = film->next(film, whole ? gauge->now : gauge->full);
+    const bool whole = gauge->factor == 1 && sample_bytes(film->depth) == 1;
+    const enum fetched fetched = film->next(film, whole ? &gauge->now : &gauge->full);
     *ended = fetched == END;
     if (fetched == BROKEN)
         return FAILED;
     if (*ended || whole)
         return DONE;
-    const int64_t answer =
-        brine_reduce(8, gauge->factor, gauge->full, film->width * film->height, film->width, film->height, film->width, 0,
-                     gauge->now, gauge->width * gauge->height, gauge->width, gauge->height, gauge->width, 0);
+    const int64_t answer = plane_reduce(&gauge->full, gauge->factor, &gauge->now);
+    if (answer == -REFUSED_SAMPLE)
+        return film_refused(film, &gauge->full, answer);
     return answer < 0 ? say_refused(answer, "%s: its frames cannot be reduced", film->name) : DONE;
 }
 
@@ -49,9 +53,6 @@ enum status gauge_start(struct gauge *gauge, struct film *film, struct costs *co
     if (factor < 0)
         return say_refused(factor, "%s: its sides have no scale factor", film->name);
     gauge->factor = (size_t)factor;
-    gauge->width = film->width / gauge->factor;
-    gauge->height = film->height / gauge->factor;
-    gauge->block_count = (gauge->width / 8) * (gauge->height / 8);
     if (!make_room(gauge))
         return say_failed("%s: not enough memory for its frames", film->name);
     bool ended;
@@ -61,22 +62,17 @@ enum status gauge_start(struct gauge *gauge, struct film *film, struct costs *co
 
 static int64_t measure_fast(struct gauge *g, struct pair *pair)
 {
-    const size_t n = g->width * g->height;
-    pair->threshold = FAST_THRESHOLD;
-    return brine_delta(8, g->before, n, g->width, g->height, g->width, 0, g->now, n, g->width, g->height, g->width, 0,
-                       &pair->inter);
+    pair->threshold = fast_threshold(g->film->depth);
+    return plane_delta(&g->before, &g->now, &pair->inter);
 }
 
 /* Importance of the pair; the threshold comes from its second frame. */
 static int64_t measure_standard(struct gauge *g, struct pair *pair)
 {
-    const size_t n = g->width * g->height;
-    int64_t answer = brine_importance(8, g->now, n, g->width, g->height, g->width, 0, g->before, n, g->width, g->height,
-                                      g->width, 0, &pair->importance);
+    int64_t answer = plane_importance(&g->now, &g->before, &pair->importance);
     if (answer < 0)
         return answer;
-    answer = brine_intra_costs(8, g->now, n, g->width, g->height, g->width, 0, g->work, n, g->width, g->height,
-                               g->width, 0, g->blocks, g->block_count);
+    answer = plane_intra_costs(&g->now, &g->work, g->blocks, g->block_count);
     if (answer < 0)
         return answer;
     return brine_threshold(g->blocks, g->block_count, (size_t)answer, &pair->threshold);
@@ -84,7 +80,7 @@ static int64_t measure_standard(struct gauge *g, struct pair *pair)
 
 enum status gauge_next(struct gauge *gauge, struct pair *pair, bool *ended)
 {
-    uint8_t *const last = gauge->before;
+    const struct plane last = gauge->before;
     gauge->before = gauge->now;
     gauge->now = last;
     *pair = (struct pair){0};
@@ -104,10 +100,10 @@ enum status gauge_next(struct gauge *gauge, struct pair *pair, bool *ended)
 
 void gauge_free(struct gauge *gauge)
 {
-    free(gauge->full);
-    free(gauge->before);
-    free(gauge->now);
-    free(gauge->work);
+    plane_free(&gauge->full);
+    plane_free(&gauge->before);
+    plane_free(&gauge->now);
+    plane_free(&gauge->work);
     free(gauge->blocks);
     *gauge = (struct gauge){0};
 }

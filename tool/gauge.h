@@ -20,12 +20,10 @@ struct gauge {
     struct costs *costs;
     uint32_t mode;
     size_t factor; /* by the scale rule */
-    size_t width;  /* the reduced sides */
-    size_t height;
-    uint8_t *full;   /* a frame as the film has it, where planes are reduced */
-    uint8_t *before; /* the last frame, reduced */
-    uint8_t *now;    /* the new frame, reduced */
-    uint8_t *work;   /* the work plane of the intra costs */
+    struct plane full;   /* a frame as the film has it */
+    struct plane before; /* the last frame, reduced */
+    struct plane now;    /* the new frame, reduced */
+    struct plane work;   /* the work plane of the intra costs */
     uint32_t *blocks;
     size_t block_count;
 };

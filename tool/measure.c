@@ -17,54 +17,55 @@ struct measures {
     double threshold;
 };
 
-#define LENT(p) (p)->samples, (p)->count, (p)->width, (p)->height, (p)->width, 0
-
-static int64_t measure_pair(const struct picture *a, const struct picture *b, struct measures *m)
+static int64_t measure_pair(const struct plane *a, const struct plane *b, struct measures *m)
 {
-    /* One depth goes with both planes: one that isn't 8 is refused, whichever picture has it. */
-    const uint32_t depth = a->depth != 8 ? a->depth : b->depth;
-
-    m->difference = brine_plane_difference(depth, LENT(a), LENT(b));
+    m->difference = plane_difference(a, b);
     if (m->difference < 0)
         return m->difference;
-    m->total = brine_importance_total(depth, LENT(a), LENT(b));
+    m->total = plane_importance_total(a, b);
     if (m->total < 0)
         return m->total;
-    const int64_t answer = brine_delta(depth, LENT(a), LENT(b), &m->delta);
-    return answer < 0 ? answer : brine_importance(depth, LENT(a), LENT(b), &m->importance);
+    const int64_t answer = plane_delta(a, b, &m->delta);
+    return answer < 0 ? answer : plane_importance(a, b, &m->importance);
 }
 
 /* The threshold of one picture: its intra costs over a work plane and a list made here. */
-static enum status measure_threshold(const struct picture *p, struct measures *m)
+static enum status measure_threshold(const struct plane *p, struct measures *m)
 {
     const size_t room = (p->width / 8) * (p->height / 8);
-    uint8_t *work = malloc(p->count);
+    struct plane work;
+    const bool made = plane_make(&work, p->width, p->height, p->depth);
     uint32_t *costs = calloc(room + 1, sizeof *costs);
     int64_t answer = 0;
     enum status status = DONE;
 
-    if (work == NULL || costs == NULL) {
+    if (!made || costs == NULL) {
         status = say_failed("not enough memory for the intra costs");
     } else {
-        answer = m->blocks =
-            brine_intra_costs(p->depth, LENT(p), work, p->count, p->width, p->height, p->width, 0, costs, room);
+        answer = m->blocks = plane_intra_costs(p, &work, costs, room);
         if (answer >= 0)
             answer = brine_threshold(costs, room, (size_t)answer, &m->threshold);
     }
-    free(work);
+    plane_free(&work);
     free(costs);
     return answer < 0 ? say_refused(answer, "the second picture has no intra costs") : status;
 }
 
-/* Why two pictures were refused: the library looks at the depth first, then at each picture's sides, then at both. */
-static enum status refused(const struct picture *a, const struct picture *b, char **names, int64_t answer)
+/* Why two pictures were refused: the library looks at each picture's sides, then at both, then at the samples. */
+static enum status refused(const struct plane *a, const struct plane *b, char **names, int64_t answer)
 {
-    const bool depth = answer == -REFUSED_DEPTH;
-    const bool second = depth ? a->depth == 8 : !picture_has_bad_side(a);
+    char fault[FAULT_ROOM] = "";
+    if (answer == -REFUSED_SAMPLE) {
+        const bool first = plane_fault(a, fault);
+        if (!first)
+            plane_fault(b, fault);
+        return say_refused(answer, "%s: %s", names[first ? 0 : 1], fault);
+    }
     if (answer == -REFUSED_UNLIKE)
         return say_refused(answer, "%s is %zu × %zu and %s %zu × %zu: both must have one size", names[0], a->width, a->height,
                            names[1], b->width, b->height);
-    const struct picture *p = second ? b : a;
+    const bool second = !picture_has_bad_side(a);
+    const struct plane *p = second ? b : a;
     return picture_refused(names[second], p->width, p->height, p->depth, answer);
 }
 
@@ -75,12 +76,14 @@ static void add_number(struct page *page, const char *name, double value, const 
     page_add(page, "%-10s %s%s\n", name, number, more);
 }
 
-static enum status write_measures(const struct measures *m, const struct picture *p, size_t factor)
+static enum status write_measures(const struct measures *m, const struct plane *p, size_t factor)
 {
     struct page page = {0};
     char blocks[96];
 
     page_add(&page, "pictures   %zu × %zu", p->width, p->height);
+    if (p->depth != 8)
+        page_add(&page, " of %u bits", (unsigned)p->depth);
     if (factor == 0)
         page_add(&page, ", whole\n");
     else
@@ -97,7 +100,7 @@ static enum status write_measures(const struct measures *m, const struct picture
     return status;
 }
 
-static enum status measure_whole(const struct picture *a, const struct picture *b, char **names)
+static enum status measure_whole(const struct plane *a, const struct plane *b, char **names)
 {
     struct measures measures = {0};
     const int64_t answer = measure_pair(a, b, &measures);
@@ -109,7 +112,7 @@ static enum status measure_whole(const struct picture *a, const struct picture *
 }
 
 /* Delta alone, of both pictures reduced as `decide` reduces frames. Pictures that cannot be measured are refused whole. */
-static enum status measure_reduced(struct picture *a, struct picture *b, char **names)
+static enum status measure_reduced(struct plane *a, struct plane *b, char **names)
 {
     struct measures measures = {0};
     int64_t answer = measure_pair(a, b, &measures);
@@ -148,19 +151,28 @@ static enum status read_words(int count, char **words, uint32_t *mode, bool *hel
     return *help || count - optind == 2 ? DONE : say_usage("measure wants two pictures");
 }
 
+/* Samples of unlike depths have no difference: one step of the one is several of the other. */
+static enum status measure_pictures(struct plane *a, struct plane *b, char **names, uint32_t mode)
+{
+    if (a->depth != b->depth)
+        return say_failed("%s has samples of %u bits and %s of %u: both must have one depth", names[0], (unsigned)a->depth,
+                          names[1], (unsigned)b->depth);
+    return mode == BRINE_MODE_FAST ? measure_reduced(a, b, names) : measure_whole(a, b, names);
+}
+
 static enum status measure_files(char **names, uint32_t mode)
 {
-    struct picture a, b;
+    struct plane a, b;
     enum status status = picture_read_pgm(&a, names[0]);
 
     if (status != DONE)
         return status;
     status = picture_read_pgm(&b, names[1]);
     if (status == DONE) {
-        status = mode == BRINE_MODE_FAST ? measure_reduced(&a, &b, names) : measure_whole(&a, &b, names);
-        picture_free(&b);
+        status = measure_pictures(&a, &b, names, mode);
+        plane_free(&b);
     }
-    picture_free(&a);
+    plane_free(&a);
     return status;
 }
 

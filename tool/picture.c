@@ -1,11 +1,8 @@
 #include "picture.h"
 
-#include "brinepulley.h"
-
 #include <ctype.h>
 #include <errno.h>
 #include <stdio.h>
-#include <stdlib.h>
 #include <string.h>
 
 /* The next byte of a PGM's header; a comment counts as the line end that closes it. */
@@ -41,15 +38,13 @@ static enum status fault(FILE *file, const char *path, const char *how)
     return say_failed("%s: %s", path, ferror(file) ? strerror(errno) : how);
 }
 
+/* Bits of a sample by the largest value that it may have, or 0 where that is none of the three. */
 static uint32_t bits_of(size_t largest)
 {
-    uint32_t bits = 0;
-    for (; largest > 0; largest /= 2)
-        bits++;
-    return bits;
+    return largest == 255 ? 8 : largest == 1023 ? 10 : largest == 4095 ? 12 : 0;
 }
 
-static enum status read_header(struct picture *picture, FILE *file, const char *path)
+static enum status read_header(struct plane *picture, FILE *file, const char *path)
 {
     size_t largest = 0;
     const int first = getc(file);
@@ -60,9 +55,9 @@ static enum status read_header(struct picture *picture, FILE *file, const char *
     if (!header_number(file, &picture->width) || !header_number(file, &picture->height)
         || !header_number(file, &largest))
         return fault(file, path, "its PGM header is not width, height and largest value");
-    if (largest < 255 || largest > 65535)
-        return say_failed("%s: its largest value is %zu, not 255", path, largest);
     picture->depth = bits_of(largest);
+    if (picture->depth == 0)
+        return say_failed("%s: its largest value is %zu, and only 255, 1023 and 4095 are taken", path, largest);
     return DONE;
 }
 
@@ -71,26 +66,18 @@ static bool is_side(size_t side)
     return side >= 1 && side <= LARGEST_SIDE;
 }
 
-bool picture_has_bad_side(const struct picture *picture)
+bool picture_has_bad_side(const struct plane *picture)
 {
     return !is_side(picture->width) || !is_side(picture->height);
 }
 
-/* A side or a depth that the library will refuse: then the samples are not read. */
-static bool refusable(const struct picture *picture)
+static enum status read_samples(struct plane *picture, FILE *file, const char *path)
 {
-    return picture->depth != 8 || picture_has_bad_side(picture);
-}
-
-static enum status read_samples(struct picture *picture, FILE *file, const char *path)
-{
-    picture->count = refusable(picture) ? 0 : picture->width * picture->height;
-    picture->samples = malloc(picture->count + 1);
-    if (picture->samples == NULL)
-        return say_failed("%s: not enough memory for its %zu samples", path, picture->count);
-    if (picture->count == 0)
+    if (picture_has_bad_side(picture))
         return DONE;
-    const size_t got = fread(picture->samples, 1, picture->count, file);
+    if (!plane_make(picture, picture->width, picture->height, picture->depth))
+        return say_failed("%s: not enough memory for its %zu samples", path, picture->count);
+    const size_t got = plane_read(picture, file, HIGH_FIRST);
     if (got < picture->count && !ferror(file))
         return say_failed("%s: cut short, %zu of %zu samples", path, got, picture->count);
     if (!ferror(file) && getc(file) != EOF)
@@ -98,9 +85,9 @@ static enum status read_samples(struct picture *picture, FILE *file, const char 
     return ferror(file) ? fault(file, path, "") : DONE;
 }
 
-enum status picture_read_pgm(struct picture *picture, const char *path)
+enum status picture_read_pgm(struct plane *picture, const char *path)
 {
-    *picture = (struct picture){0};
+    *picture = (struct plane){0};
     FILE *file = fopen(path, "rb");
     if (file == NULL)
         return say_failed("%s: %s", path, strerror(errno));
@@ -109,42 +96,31 @@ enum status picture_read_pgm(struct picture *picture, const char *path)
         status = read_samples(picture, file, path);
     fclose(file);
     if (status != DONE)
-        picture_free(picture);
+        plane_free(picture);
     return status;
-}
-
-void picture_free(struct picture *picture)
-{
-    free(picture->samples);
-    *picture = (struct picture){0};
 }
 
 enum status picture_refused(const char *name, size_t width, size_t height, uint32_t depth, int64_t answer)
 {
     if (answer == -REFUSED_DEPTH)
-        return say_refused(answer, "%s: samples of %u bits, and only 8 are taken", name, (unsigned)depth);
+        return say_refused(answer, "%s: samples of %u bits, and only 8, 10 and 12 are taken", name, (unsigned)depth);
     const size_t side = is_side(width) ? height : width;
     return say_refused(answer, "%s: a %s of %zu%s, and a side is 1 to %d", name, is_side(width) ? "height" : "width", side,
                        side == SIZE_MAX ? " or more" : "", LARGEST_SIDE);
 }
 
 /* The library reduces into another place: lent places must not overlap. */
-enum status picture_shrink(struct picture *picture, const char *name, size_t factor)
+enum status picture_shrink(struct plane *picture, const char *name, size_t factor)
 {
-    const size_t width = picture->width / factor, height = picture->height / factor, count = width * height;
-    uint8_t *reduced = malloc(count + 1);
-    if (reduced == NULL)
-        return say_failed("%s: not enough memory for its %zu samples, reduced", name, count);
-    const int64_t answer = brine_reduce(picture->depth, factor, picture->samples, picture->count, picture->width,
-                                        picture->height, picture->width, 0, reduced, count, width, height, width, 0);
+    struct plane reduced;
+    if (!plane_make(&reduced, picture->width / factor, picture->height / factor, picture->depth))
+        return say_failed("%s: not enough memory for its %zu samples, reduced", name, reduced.count);
+    const int64_t answer = plane_reduce(picture, factor, &reduced);
     if (answer < 0) {
-        free(reduced);
+        plane_free(&reduced);
         return say_refused(answer, "%s: it cannot be reduced by %zu", name, factor);
     }
-    free(picture->samples);
-    picture->samples = reduced;
-    picture->width = width;
-    picture->height = height;
-    picture->count = count;
+    plane_free(picture);
+    *picture = reduced;
     return DONE;
 }

@@ -8,6 +8,7 @@
 #include <string.h>
 
 enum colour { COLOUR_420, COLOUR_422, COLOUR_444, COLOUR_MONO };
+enum { NAME_ROOM = 128 }; /* of a frame */
 
 /* Bits of a sample by what stands behind the colour's name: nothing, and a siting of C420, gives 8; C420p10 and Cmono10
    have 10. */
@@ -133,7 +134,8 @@ static enum status read_header(struct film *film)
     return take_words(film);
 }
 
-static size_t chroma_bytes(const struct film *film)
+/* How many samples both planes of chroma have. */
+static size_t chroma_count(const struct film *film)
 {
     const size_t half_width = (film->width + 1) / 2;
     const size_t half_height = (film->height + 1) / 2;
@@ -162,15 +164,28 @@ static bool skip(FILE *file, size_t bytes)
     return true;
 }
 
-/* Names the frame by its number and by its place in the film. */
-static enum fetched broken_frame(const struct film *film, const char *how)
+/* Names a frame by its number and by its place in the film: the frame's, counted from 0, and the byte's. */
+static const char *frame_name(char out[NAME_ROOM], const struct film *film, uint64_t frame, uint64_t byte)
 {
     char place[64] = "";
     if (film->first > 0)
-        snprintf(place, sizeof place, "frame %" PRIu64 " of the film, ", film->frames);
-    say_failed("%s: frame %" PRIu64 " (%sat byte %" PRIu64 "): %s", film->name, film->first + film->frames, place,
-               film->bytes, how);
+        snprintf(place, sizeof place, "frame %" PRIu64 " of the film, ", frame);
+    snprintf(out, NAME_ROOM, "frame %" PRIu64 " (%sat byte %" PRIu64 ")", film->first + frame, place, byte);
+    return out;
+}
+
+static enum fetched broken_frame(const struct film *film, const char *how)
+{
+    char name[NAME_ROOM];
+    say_failed("%s: %s: %s", film->name, frame_name(name, film, film->frames, film->bytes), how);
     return BROKEN;
+}
+
+enum status film_refused(const struct film *film, const struct plane *luma, int64_t answer)
+{
+    char name[NAME_ROOM], fault[FAULT_ROOM] = "";
+    plane_fault(luma, fault);
+    return say_refused(answer, "%s: %s: %s", film->name, frame_name(name, film, film->frames - 1, film->begin), fault);
 }
 
 /* The line before a frame: FRAME, and perhaps words behind it, which say nothing about luma. */
@@ -195,16 +210,17 @@ static enum fetched read_frame_line(struct film *film)
     return fault == NULL ? FRAME : broken_frame(film, fault);
 }
 
-static enum fetched next_y4m(struct film *film, uint8_t *luma)
+static enum fetched next_y4m(struct film *film, struct plane *luma)
 {
-    const size_t samples = film->width * film->height, chroma = chroma_bytes(film);
+    const size_t each = sample_bytes(film->depth), chroma = chroma_count(film) * each;
     const enum fetched fetched = read_frame_line(film);
 
     if (fetched != FRAME)
         return fetched;
-    if (fread(luma, 1, samples, film->file) != samples || !skip(film->file, chroma))
+    if (plane_read(luma, film->file, LOW_FIRST) != luma->count || !skip(film->file, chroma))
         return broken_frame(film, ferror(film->file) ? strerror(errno) : "it is cut short");
-    film->bytes += strlen("FRAME") + film->line.length + 1 + samples + chroma;
+    film->begin = film->bytes;
+    film->bytes += strlen("FRAME") + film->line.length + 1 + luma->count * each + chroma;
     film->frames++;
     return FRAME;
 }
