@@ -1,5 +1,5 @@
-//! Whole films of real planes, of either word, through the crate's own driver, `detect_scene_changes`, with nothing replaced but the
-//! motion search: the inter costs are given.
+//! Whole films of real planes, of either word, through the crate's own driver, `detect_scene_changes`, with nothing replaced
+//! but the motion search: the inter costs are given.
 use num_rational::Rational32;
 use scenes::{Decoder, DetectionOptions, DetectionResults, SceneDetectionSpeed, ScenecutResult, detect_scene_changes};
 use v_frame::{
