@@ -2,6 +2,7 @@
 //! nothing is drawn for them.
 use crate::desk::Desk;
 use crate::edges::flat;
+use crate::list_cases::satd_of;
 use crate::measures_reading::{self as read, Lent};
 use crate::plane_cases::{intra_of, pair_of};
 use crate::random::Random;
@@ -148,9 +149,11 @@ fn reductions(desk: &mut Desk, depth: u64) {
     }
 }
 
-/// Whatever the seed draws.
+/// Whatever the seed draws. A SATD takes any words.
 pub fn edges(desk: &mut Desk) {
     bytes(desk);
+    satd_of(desk, &[0; 64], &[LARGEST as u16; 64]);
+    satd_of(desk, &[LARGEST as u16; 64], &[0; 64]);
     for &depth in u16::DEPTHS {
         measures(desk, depth);
         reductions(desk, depth);

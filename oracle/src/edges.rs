@@ -56,10 +56,9 @@ pub fn large(desk: &mut Desk) {
     pair_of::<u8>(desk, 8, &flat(4105, 4105, 0), &flat(4105, 4105, most(8)));
 }
 
-/// The same of 12 bits, and the SATD of the largest samples that two bytes hold.
+/// The same of 12 bits.
 pub fn large_deep(desk: &mut Desk) {
     pair_of::<u16>(desk, 12, &flat(1025, 1025, 0), &flat(1025, 1025, most(12)));
-    satd_of(desk, &[0; 64], &[u16::MAX; 64]);
 }
 
 fn fresh(settings: [u64; 7]) -> State {

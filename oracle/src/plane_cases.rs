@@ -199,7 +199,7 @@ pub fn intra<T: Sample>(desk: &mut Desk, r: &mut Random) {
 
 /// A depth above the sample's bits does not fit it: there the crate's text is undefined, and it cannot be asked. Only a mutant of
 /// the reading wants to.
-fn asked<T>(depth: u64) -> u64 {
+fn within<T>(depth: u64) -> u64 {
     depth.min(8 * size_of::<T>() as u64)
 }
 
@@ -208,7 +208,7 @@ pub fn intra_of<T: Sample>(desk: &mut Desk, depth: u64, a: &Lent<T>, work: &Lent
     let (mut answer, mut after, mut costs) = (-i64::from(fault), work.samples.clone(), room.to_vec());
     if fault == 0 {
         let mut temp = plane(work);
-        let theirs = estimate_intra_costs(&mut temp, &frame(a, depth), asked::<T>(depth) as usize);
+        let theirs = estimate_intra_costs(&mut temp, &frame(a, depth), within::<T>(depth) as usize);
         if (theirs.to_vec(), temp.samples.clone()) != read::intra(depth, a, work) {
             desk.tally.differs("intra costs or their work plane");
         }
@@ -216,10 +216,10 @@ pub fn intra_of<T: Sample>(desk: &mut Desk, depth: u64, a: &Lent<T>, work: &Lent
         after = temp.samples;
         costs[..theirs.len()].copy_from_slice(&theirs);
         desk.tally.measures += 1;
-        crate_threshold(desk, asked::<T>(depth), a, &theirs);
+        crate_threshold(desk, within::<T>(depth), a, &theirs);
     } else {
         let sound = T::DEPTHS.iter().any(|&other| read::intra_fault(other, a, work, room.len()) == 0);
-        let known = fault == 5 && asked::<T>(depth) == depth && sound;
+        let known = fault == 5 && within::<T>(depth) == depth && sound;
         let asked = || ran(|| estimate_intra_costs(&mut plane(work), &frame(a, 8), depth as usize));
         desk.tally.refusal(fault, if known { asked() } else { Ran::NotAsked });
     }

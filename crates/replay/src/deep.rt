@@ -4,6 +4,7 @@ use crate::desk::len;
 use crate::memory;
 use crate::parts;
 use crate::planes::shape_at;
+use brinepulley::deep;
 
 const SAMPLES: usize = 8704;
 
@@ -17,9 +18,9 @@ fn whole(letter: u8, desk: &[u64], first: &[u16], second: &[u16]) -> i64 {
     let p = parts::quarters(first, 0, a.n);
     let q = parts::quarters(second, 0, b.n);
     if letter == b'Q' {
-        return brinepulley::deep::brine_plane_difference16(d, p, a.w, a.h, a.s, a.o, q, b.w, b.h, b.s, b.o);
+        return deep::brine_plane_difference16(d, p, a.w, a.h, a.s, a.o, q, b.w, b.h, b.s, b.o);
     }
-    brinepulley::deep::brine_importance_total16(d, p, a.w, a.h, a.s, a.o, q, b.w, b.h, b.s, b.o)
+    deep::brine_importance_total16(d, p, a.w, a.h, a.s, a.o, q, b.w, b.h, b.s, b.o)
 }
 
 // Delta, or the importance.
@@ -30,9 +31,9 @@ fn ratio(letter: u8, desk: &[u64], first: &[u16], second: &[u16], x: &mut f64) -
     let p = parts::quarters(first, 0, a.n);
     let q = parts::quarters(second, 0, b.n);
     if letter == b'U' {
-        return brinepulley::deep::brine_delta16(d, p, a.w, a.h, a.s, a.o, q, b.w, b.h, b.s, b.o, x);
+        return deep::brine_delta16(d, p, a.w, a.h, a.s, a.o, q, b.w, b.h, b.s, b.o, x);
     }
-    brinepulley::deep::brine_importance16(d, p, a.w, a.h, a.s, a.o, q, b.w, b.h, b.s, b.o, x)
+    deep::brine_importance16(d, p, a.w, a.h, a.s, a.o, q, b.w, b.h, b.s, b.o, x)
 }
 
 // The second plane is the work plane; then the length of the costs.
@@ -43,7 +44,7 @@ fn intra(desk: &[u64], first: &[u16], second: &mut [u16], costs: &mut [u32]) -> 
     let p = parts::quarters(first, 0, a.n);
     let q = parts::deep_work(second, 0, b.n);
     let c = parts::room(costs, 0, len(desk, 12));
-    brinepulley::deep::brine_intra_costs16(d, p, a.w, a.h, a.s, a.o, q, b.w, b.h, b.s, b.o, c)
+    deep::brine_intra_costs16(d, p, a.w, a.h, a.s, a.o, q, b.w, b.h, b.s, b.o, c)
 }
 
 // The second plane takes the first one reduced; then the factor.
@@ -54,14 +55,14 @@ fn reduction(desk: &[u64], first: &[u16], second: &mut [u16]) -> i64 {
     let p = parts::quarters(first, 0, a.n);
     let q = parts::deep_work(second, 0, b.n);
     let f = len(desk, 12);
-    brinepulley::deep::brine_reduce16(d, f, p, a.w, a.h, a.s, a.o, q, b.w, b.h, b.s, b.o)
+    deep::brine_reduce16(d, f, p, a.w, a.h, a.s, a.o, q, b.w, b.h, b.s, b.o)
 }
 
 // The SATD of the samples of both planes.
 fn satd(desk: &[u64], first: &[u16], second: &[u16]) -> i64 {
     let p = parts::quarters(first, 0, len(desk, 2));
     let q = parts::quarters(second, 0, len(desk, 7));
-    brinepulley::deep::brine_satd8x8_16(p, q)
+    deep::brine_satd8x8_16(p, q)
 }
 
 fn call(
