@@ -20,7 +20,7 @@ use v_frame::{
     plane::{Mark, Plane, PlaneGeometry},
 };
 
-type Scenes = scenes::SceneChangeDetector<u8>;
+type Scenes<T> = scenes::SceneChangeDetector<T>;
 /// The crate's detector with all three measures given.
 type Given = fed::SceneChangeDetector<u8>;
 
@@ -55,22 +55,28 @@ fn line(what: &str, size: &str, theirs: f64, ours: f64, more: &str) {
     println!("| {what} | {size} | {:.3} | {:.3} | {:.2} | {more} |", theirs / 1000.0, ours / 1000.0, theirs / ours);
 }
 
-fn samples(count: usize, mut seed: u64) -> Vec<u8> {
+fn samples<T: Sample>(count: usize, mut seed: u64) -> Vec<T> {
     let next = |_| {
         seed = seed.wrapping_mul(6_364_136_223_846_793_005).wrapping_add(1);
-        (seed >> 56) as u8
+        T::of(seed)
     };
     (0..count).map(next).collect()
 }
 
-fn frame(samples: &[u8], width: usize, height: usize) -> Arc<Frame<u8>> {
+fn frame<T: Sample>(samples: &[T], width: usize, height: usize) -> Arc<Frame<T>> {
     let shape = PlaneGeometry { width, height, stride: width, origin: 0 };
-    Arc::new(Frame::of(Plane::over(samples.to_vec(), shape), Fed::default()))
+    Arc::new(Frame::deep(Plane::over(samples.to_vec(), shape), T::DEPTH as u8, Fed::default()))
 }
 
 /// How often a plane of this size is measured in one round.
 fn calls(width: usize, height: usize) -> u32 {
     (10_000_000 / (width * height)).max(1) as u32
+}
+
+/// The bytes of samples.
+fn bytes<T: Sample>(list: &[T]) -> &[u8] {
+    // SAFETY: a sample is one byte or two, and every byte of it may be read.
+    unsafe { std::slice::from_raw_parts(list.as_ptr().cast(), size_of_val(list)) }
 }
 
 /// What a plain read of a plane takes: its words, added up.
@@ -85,40 +91,45 @@ fn beside_read(bytes: usize, ours: f64, plain: f64) -> String {
 }
 
 /// Two planes of one size, as the crate has them and as the library is lent them.
-struct Pair {
+struct Pair<T: Sample> {
     size: String,
     calls: u32,
     bytes: usize,
-    lists: [Vec<u8>; 2],
-    frames: [Arc<Frame<u8>>; 2],
+    lists: [Vec<T>; 2],
+    frames: [Arc<Frame<T>>; 2],
     width: usize,
     height: usize,
 }
 
-impl Pair {
-    fn new(width: usize, height: usize) -> Pair {
+impl<T: Sample> Pair<T> {
+    fn new(width: usize, height: usize) -> Self {
         let lists = [samples(width * height, 1), samples(width * height, 2)];
         let frames = [frame(&lists[0], width, height), frame(&lists[1], width, height)];
-        let (size, bytes) = (format!("{width}×{height}"), 2 * width * height);
+        let (size, bytes) = (format!("{width}×{height}"), 2 * size_of::<T>() * width * height);
         Pair { size, calls: calls(width, height), bytes, lists, frames, width, height }
     }
 
-    fn lent(&self, at: usize) -> Lent<'_> {
+    /// A line of the table, with the sample's word.
+    fn line(&self, what: &str, theirs: f64, ours: f64, more: &str) {
+        line(&format!("{what}{}", T::SAID), &self.size, theirs, ours, more);
+    }
+
+    fn lent(&self, at: usize) -> Lent<'_, T> {
         Lent { samples: &self.lists[at], width: self.width, height: self.height }
     }
 
     fn difference(&self) {
         let ([first, second], one, two) = (&self.frames, self.lent(0), self.lent(1));
-        assert_eq!(Scenes::door_difference(&first.y_plane, &second.y_plane) as i64, difference(&one, &two));
+        assert_eq!(Scenes::<T>::door_difference(&first.y_plane, &second.y_plane) as i64, difference(&one, &two));
         let [theirs, ours, plain] = best(
             self.calls,
             [
-                &mut || seen(Scenes::door_difference(black_box(&first.y_plane), black_box(&second.y_plane))),
+                &mut || seen(Scenes::<T>::door_difference(black_box(&first.y_plane), black_box(&second.y_plane))),
                 &mut || seen(difference(black_box(&one), black_box(&two))),
-                &mut || seen(read(black_box(&self.lists[0])) ^ read(black_box(&self.lists[1]))),
+                &mut || seen(read(bytes(black_box(&self.lists[0]))) ^ read(bytes(black_box(&self.lists[1])))),
             ],
         );
-        line("plane difference", &self.size, theirs, ours, &beside_read(self.bytes, ours, plain));
+        self.line("plane difference", theirs, ours, &beside_read(self.bytes, ours, plain));
     }
 
     fn importance(&self) {
@@ -131,48 +142,48 @@ impl Pair {
                 &mut || seen(importance(black_box(&one), black_box(&two))),
             ],
         );
-        line("importance", &self.size, theirs, ours, &format!("{:.1} GB/s", self.bytes as f64 / ours));
+        self.line("importance", theirs, ours, &format!("{:.1} GB/s", self.bytes as f64 / ours));
     }
 
     fn intra(&self) {
         let (first, one) = (&self.frames[0], self.lent(0));
         let mut temp = first.y_plane.clone();
         let (mut work, mut costs) = (self.lists[1].clone(), vec![0; self.width * self.height / 64]);
-        let due = estimate_intra_costs(&mut temp, first, 8);
+        let due = estimate_intra_costs(&mut temp, first, T::DEPTH as usize);
         let count = intra_costs(&one, &mut work, &mut costs) as usize;
         assert_eq!(&due[..], &costs[..count]);
         let [theirs, ours] = best(
             (self.calls / 40).max(1),
             [
-                &mut || seen(estimate_intra_costs(black_box(&mut temp), black_box(first), 8)),
+                &mut || seen(estimate_intra_costs(black_box(&mut temp), black_box(first), T::DEPTH as usize)),
                 &mut || seen(intra_costs(black_box(&one), black_box(&mut work), black_box(&mut costs))),
             ],
         );
-        line("intra costs", &self.size, theirs, ours, &format!("{:.0} ns a block", ours / count as f64));
+        self.line("intra costs", theirs, ours, &format!("{:.0} ns a block", ours / count as f64));
     }
 }
 
 /// A plane reduced by the factor that Fast mode has for its sides. The text of the crate's reduction is missing: it is the
 /// oracle's plain Rust that runs beside the library here.
-fn reduction(width: usize, height: usize) {
-    let factor = Scenes::door_scale(width, height, scenes::SceneDetectionSpeed::Fast);
-    let (list, count) = (samples(width * height, 1), (width / factor) * (height / factor));
+fn reduction<T: Sample>(width: usize, height: usize) {
+    let factor = Scenes::<T>::door_scale(width, height, scenes::SceneDetectionSpeed::Fast);
+    let (list, count) = (samples::<T>(width * height, 1), (width / factor) * (height / factor));
     let (from, one) = (frame(&list, width, height), Lent { samples: &list, width, height });
-    let mut to = frame(&vec![0; count], width / factor, height / factor).y_plane.clone();
-    let mut reduced = vec![0; count];
-    Scenes::door_reduce(&from.y_plane, factor, &mut to);
+    let mut to = frame(&vec![T::default(); count], width / factor, height / factor).y_plane.clone();
+    let mut reduced = vec![T::default(); count];
+    Scenes::<T>::door_reduce(&from.y_plane, factor, &mut to);
     assert_eq!(reduce(&one, factor, &mut reduced), 0);
     assert_eq!(to.samples, reduced);
     let [theirs, ours, plain] = best(
         calls(width, height),
         [
-            &mut || Scenes::door_reduce(black_box(&from.y_plane), factor, black_box(&mut to)),
+            &mut || Scenes::<T>::door_reduce(black_box(&from.y_plane), factor, black_box(&mut to)),
             &mut || seen(reduce(black_box(&one), factor, black_box(&mut reduced))),
-            &mut || seen(read(black_box(&list))),
+            &mut || seen(read(bytes(black_box(&list)))),
         ],
     );
-    let more = beside_read(list.len(), ours, plain) + "; beside the oracle's Rust";
-    line("reduction", &format!("{width}×{height} by {factor}"), theirs, ours, &more);
+    let more = beside_read(size_of_val(&list[..]), ours, plain) + "; beside the oracle's Rust";
+    line(&format!("reduction{}", T::SAID), &format!("{width}×{height} by {factor}"), theirs, ours, &more);
 }
 
 /// A block that begins a line of the cache, so that the blocks of all sides lie alike.
@@ -181,7 +192,7 @@ struct Block([i32; 64]);
 
 /// The best times of two transforms, each with the copy of its input, which must give the same.
 fn transforms(first: fn(&mut [i32]), second: fn(&mut [i32])) -> [f64; 2] {
-    let entries = samples(64, 3);
+    let entries: Vec<u8> = samples(64, 3);
     let source = Block(std::array::from_fn(|i| i32::from(entries[i]) - 128));
     let (mut a, mut b) = (Block(source.0), Block(source.0));
     first(&mut a.0);
@@ -208,7 +219,7 @@ fn accepted(block: &mut [i32]) {
 }
 
 fn transform() {
-    let [theirs, ours] = transforms(|block| Scenes::door_hadamard(block), accepted);
+    let [theirs, ours] = transforms(|block| Scenes::<u8>::door_hadamard(block), accepted);
     line("transform", "8×8", theirs, ours, "with the copy of its input");
 }
 
@@ -253,18 +264,24 @@ fn step() {
     line("step", "Standard, L 7", theirs, ours, "");
 }
 
-fn main() {
-    println!("| Part | Input | The crate, µs | The library, µs | Ratio | |");
-    println!("|---|---|---|---|---|---|");
+/// The measures of planes, and the reductions.
+fn planes<T: Sample>() {
     for (width, height) in [(240, 180), (640, 480), (1920, 1080)] {
-        let pair = Pair::new(width, height);
+        let pair = Pair::<T>::new(width, height);
         pair.difference();
         pair.importance();
         pair.intra();
     }
     for (width, height) in [(640, 480), (1280, 720), (1920, 1080), (2560, 1440), (3840, 2160)] {
-        reduction(width, height);
+        reduction::<T>(width, height);
     }
+}
+
+fn main() {
+    println!("| Part | Input | The crate, µs | The library, µs | Ratio | |");
+    println!("|---|---|---|---|---|---|");
+    planes::<u8>();
+    planes::<u16>();
     transform();
     #[cfg(before)]
     before::transform();

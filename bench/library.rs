@@ -1,15 +1,67 @@
 //! The library's C functions, as `include/brinepulley.h` declares them.
 use std::ffi::c_double;
+use std::fmt::Debug;
+
+use v_frame::pixel::Pixel;
 
 use crate::sizes::{NUMBERS, SCORES};
 
 /// The bytes of a record of a log.
 pub const RECORD: usize = 47;
 
-pub struct Lent<'a> {
-    pub samples: &'a [u8],
+pub struct Lent<'a, T> {
+    pub samples: &'a [T],
     pub width: usize,
     pub height: usize,
+}
+
+#[rustfmt::skip]
+type Difference<T> = unsafe extern "C" fn(depth: u32, a: *const T, a_len: usize, w: usize, h: usize, s: usize, o: usize,
+    b: *const T, b_len: usize, w2: usize, h2: usize, s2: usize, o2: usize) -> i64;
+#[rustfmt::skip]
+type Importance<T> = unsafe extern "C" fn(depth: u32, a: *const T, a_len: usize, w: usize, h: usize, s: usize, o: usize,
+    b: *const T, b_len: usize, w2: usize, h2: usize, s2: usize, o2: usize, importance: *mut c_double) -> i64;
+#[rustfmt::skip]
+type IntraCosts<T> = unsafe extern "C" fn(depth: u32, a: *const T, a_len: usize, w: usize, h: usize, s: usize, o: usize,
+    work: *mut T, work_len: usize, w2: usize, h2: usize, s2: usize, o2: usize, costs: *mut u32, len: usize) -> i64;
+#[rustfmt::skip]
+type Reduce<T> = unsafe extern "C" fn(depth: u32, factor: usize, samples: *const T, samples_len: usize, w: usize, h: usize,
+    s: usize, o: usize, reduced: *mut T, reduced_len: usize, w2: usize, h2: usize, s2: usize, o2: usize) -> i64;
+
+/// A sample's word: the depth that is measured, what is said of it, and the library's functions for it.
+pub trait Sample: Pixel + PartialEq + Debug {
+    const DEPTH: u32;
+    const SAID: &'static str;
+    const DIFFERENCE: Difference<Self>;
+    const IMPORTANCE: Importance<Self>;
+    const INTRA_COSTS: IntraCosts<Self>;
+    const REDUCE: Reduce<Self>;
+    /// The high bits of a word, as many as the depth says.
+    fn of(word: u64) -> Self;
+}
+
+impl Sample for u8 {
+    const DEPTH: u32 = 8;
+    const SAID: &'static str = "";
+    const DIFFERENCE: Difference<u8> = brine_plane_difference;
+    const IMPORTANCE: Importance<u8> = brine_importance;
+    const INTRA_COSTS: IntraCosts<u8> = brine_intra_costs;
+    const REDUCE: Reduce<u8> = brine_reduce;
+    fn of(word: u64) -> u8 {
+        (word >> 56) as u8
+    }
+}
+
+impl Sample for u16 {
+    const DEPTH: u32 = 12;
+    const SAID: &'static str = ", 12 bits in 16";
+    const DIFFERENCE: Difference<u16> = brine_plane_difference16;
+    const IMPORTANCE: Importance<u16> = brine_importance16;
+    const INTRA_COSTS: IntraCosts<u16> = brine_intra_costs16;
+    const REDUCE: Reduce<u16> = brine_reduce16;
+    fn of(word: u64) -> u16 {
+        (word >> 52) as u16
+    }
 }
 
 #[rustfmt::skip]
@@ -22,6 +74,14 @@ unsafe extern "C" {
         b: *const u8, b_len: usize, w2: usize, h2: usize, s2: usize, o2: usize, importance: *mut c_double) -> i64;
     fn brine_intra_costs(depth: u32, a: *const u8, a_len: usize, w: usize, h: usize, s: usize, o: usize,
         work: *mut u8, work_len: usize, w2: usize, h2: usize, s2: usize, o2: usize, costs: *mut u32, len: usize) -> i64;
+    fn brine_reduce16(depth: u32, factor: usize, samples: *const u16, samples_len: usize, w: usize, h: usize, s: usize, o: usize,
+        reduced: *mut u16, reduced_len: usize, w2: usize, h2: usize, s2: usize, o2: usize) -> i64;
+    fn brine_plane_difference16(depth: u32, a: *const u16, a_len: usize, w: usize, h: usize, s: usize, o: usize,
+        b: *const u16, b_len: usize, w2: usize, h2: usize, s2: usize, o2: usize) -> i64;
+    fn brine_importance16(depth: u32, a: *const u16, a_len: usize, w: usize, h: usize, s: usize, o: usize,
+        b: *const u16, b_len: usize, w2: usize, h2: usize, s2: usize, o2: usize, importance: *mut c_double) -> i64;
+    fn brine_intra_costs16(depth: u32, a: *const u16, a_len: usize, w: usize, h: usize, s: usize, o: usize,
+        work: *mut u16, work_len: usize, w2: usize, h2: usize, s2: usize, o2: usize, costs: *mut u32, len: usize) -> i64;
     fn brine_hadamard8x8(list: *mut i32, len: usize) -> i64;
     fn brine_detector_fresh(width: usize, height: usize, depth: u32, lookahead: usize, mode: u32, min: u64, max: u64,
         numbers: *mut u64, numbers_len: usize, scores: *mut c_double, scores_len: usize) -> i64;
@@ -35,38 +95,38 @@ unsafe extern "C" {
         backward: c_double, forward: c_double, threshold: c_double, cut: u32) -> i64;
 }
 
-pub fn reduce(a: &Lent, factor: usize, reduced: &mut [u8]) -> i64 {
+pub fn reduce<T: Sample>(a: &Lent<T>, factor: usize, reduced: &mut [T]) -> i64 {
     let (w, h) = (a.width / factor, a.height / factor);
     // SAFETY: each pointer is lent with its own length.
     unsafe {
-        brine_reduce(8, factor, a.samples.as_ptr(), a.samples.len(), a.width, a.height, a.width, 0, reduced.as_mut_ptr(),
+        T::REDUCE(T::DEPTH, factor, a.samples.as_ptr(), a.samples.len(), a.width, a.height, a.width, 0, reduced.as_mut_ptr(),
             reduced.len(), w, h, w, 0)
     }
 }
 
-pub fn difference(a: &Lent, b: &Lent) -> i64 {
+pub fn difference<T: Sample>(a: &Lent<T>, b: &Lent<T>) -> i64 {
     // SAFETY: as above.
     unsafe {
-        brine_plane_difference(8, a.samples.as_ptr(), a.samples.len(), a.width, a.height, a.width, 0, b.samples.as_ptr(),
+        T::DIFFERENCE(T::DEPTH, a.samples.as_ptr(), a.samples.len(), a.width, a.height, a.width, 0, b.samples.as_ptr(),
             b.samples.len(), b.width, b.height, b.width, 0)
     }
 }
 
-pub fn importance(a: &Lent, b: &Lent) -> f64 {
+pub fn importance<T: Sample>(a: &Lent<T>, b: &Lent<T>) -> f64 {
     let mut out = 0.0;
     // SAFETY: as above.
     let answer = unsafe {
-        brine_importance(8, a.samples.as_ptr(), a.samples.len(), a.width, a.height, a.width, 0, b.samples.as_ptr(),
+        T::IMPORTANCE(T::DEPTH, a.samples.as_ptr(), a.samples.len(), a.width, a.height, a.width, 0, b.samples.as_ptr(),
             b.samples.len(), b.width, b.height, b.width, 0, &mut out)
     };
     assert_eq!(answer, 0);
     out
 }
 
-pub fn intra_costs(a: &Lent, work: &mut [u8], costs: &mut [u32]) -> i64 {
+pub fn intra_costs<T: Sample>(a: &Lent<T>, work: &mut [T], costs: &mut [u32]) -> i64 {
     // SAFETY: as above.
     unsafe {
-        brine_intra_costs(8, a.samples.as_ptr(), a.samples.len(), a.width, a.height, a.width, 0, work.as_mut_ptr(),
+        T::INTRA_COSTS(T::DEPTH, a.samples.as_ptr(), a.samples.len(), a.width, a.height, a.width, 0, work.as_mut_ptr(),
             work.len(), a.width, a.height, a.width, 0, costs.as_mut_ptr(), costs.len())
     }
 }

@@ -12,15 +12,19 @@
 
 enum measure { M_SCALE, M_REDUCTION, M_DIFFERENCE, M_TOTAL, M_DELTA, M_IMPORTANCE, M_INTRA, M_THRESHOLD, M_4X4, M_8X8, M_SATD,
     MEASURES };
-static const char *const measures[MEASURES] = {"scale factor", "reduction", "plane difference", "importance total", "delta",
-    "importance", "intra costs", "threshold", "transform of 4x4", "transform of 8x8", "SATD"};
-static uint64_t measured[MEASURES];
+/* Of samples of 8 bits, or of none, and of 16. */
+static const char *const measures[2][MEASURES] = {
+    {"scale factor", "reduction", "plane difference", "importance total", "delta", "importance", "intra costs", "threshold",
+     "transform of 4x4", "transform of 8x8", "SATD"},
+    {NULL, "reduction16", "plane difference16", "importance total16", "delta16", "importance16", "intra costs16", NULL, NULL, NULL,
+     "SATD16"}};
+static uint64_t measured[2][MEASURES];
 
 /* One measure was compared. */
 static void measure(enum measure m, int ok, int64_t due, int64_t got)
 {
-    measured[m] += due >= 0;
-    verdict(ok && due == got, measures[m], due, got);
+    measured[sample_bytes - 1][m] += due >= 0;
+    verdict(ok && due == got, measures[sample_bytes - 1][m], due, got);
 }
 
 static void scale(void)
@@ -32,16 +36,16 @@ static void scale(void)
 
 struct plane {
     uint64_t width, height, stride, origin;
-    const uint8_t *samples;
+    const void *samples;
     size_t len;
-    uint8_t *lent;
+    void *lent;
 };
 
 static struct plane plane(enum slot slot)
 {
     struct plane p = {word(), word(), word(), word(), NULL, 0, NULL};
-    p.samples = bytes(&p.len);
-    p.lent = lend(slot, p.samples, p.len, 1);
+    p.samples = samples(&p.len);
+    p.lent = lend(slot, p.samples, p.len * sample_bytes, sample_bytes);
     return p;
 }
 
@@ -53,8 +57,8 @@ static void reduction(void)
     size_t factor = word(), same_len;
     struct plane a = plane(FIRST), reduced = plane(SECOND);
     int64_t due = answer();
-    const void *after = bytes(&same_len);
-    int64_t got = brine_reduce(depth, factor, AS_LENT(a), AS_LENT(reduced));
+    const void *after = samples(&same_len);
+    int64_t got = OF_SAMPLES(brine_reduce, depth, factor, AS_LENT(a), AS_LENT(reduced));
     measure(M_REDUCTION, holds(FIRST, a.samples) && holds(SECOND, after), due, got);
 }
 
@@ -67,14 +71,14 @@ static void planes(void)
     const double before = 12345.5;
     for (int i = 0; i < 4; i++) due[i] = answer();
     memcpy(value, words(2), sizeof value);
-    got[0] = brine_plane_difference(depth, AS_LENT(a), AS_LENT(b));
-    got[1] = brine_importance_total(depth, AS_LENT(a), AS_LENT(b));
+    got[0] = OF_SAMPLES(brine_plane_difference, depth, AS_LENT(a), AS_LENT(b));
+    got[1] = OF_SAMPLES(brine_importance_total, depth, AS_LENT(a), AS_LENT(b));
     for (int i = 0; i < 4; i++) {
         int ok = 1;
         if (i >= 2) {
             double *out = lend(OUT, &before, sizeof before, 8);
-            got[i] = i == 2 ? brine_delta(depth, AS_LENT(a), AS_LENT(b), out)
-                            : brine_importance(depth, AS_LENT(a), AS_LENT(b), out);
+            got[i] = i == 2 ? OF_SAMPLES(brine_delta, depth, AS_LENT(a), AS_LENT(b), out)
+                            : OF_SAMPLES(brine_importance, depth, AS_LENT(a), AS_LENT(b), out);
             ok = same(*out, due[i] < 0 ? before : value[i - 2]) && guarded(OUT);
         }
         ok = ok && holds(FIRST, a.samples) && holds(SECOND, b.samples);
@@ -89,10 +93,10 @@ static void intra(void)
     size_t costs_len, same_len;
     const uint32_t *costs = halves(&costs_len);
     int64_t due = answer();
-    const void *work_after = bytes(&same_len);
+    const void *work_after = samples(&same_len);
     const uint32_t *costs_after = halves(&same_len);
     uint32_t *lent = lend(COSTS, costs, costs_len * sizeof *costs, 4);
-    int64_t got = brine_intra_costs(depth, AS_LENT(a), AS_LENT(work), lent, costs_len);
+    int64_t got = OF_SAMPLES(brine_intra_costs, depth, AS_LENT(a), AS_LENT(work), lent, costs_len);
     measure(M_INTRA, holds(FIRST, a.samples) && holds(SECOND, work_after) && holds(COSTS, costs_after), due, got);
 }
 
@@ -126,9 +130,11 @@ static void hadamard(void)
 static void satd(void)
 {
     size_t len, len2;
-    const void *a = bytes(&len), *b = bytes(&len2);
+    const void *a = samples(&len), *b = samples(&len2);
+    const void *first = lend(FIRST, a, len * sample_bytes, sample_bytes);
+    const void *second = lend(SECOND, b, len2 * sample_bytes, sample_bytes);
     int64_t due = answer();
-    int64_t got = brine_satd8x8(lend(FIRST, a, len, 1), len, lend(SECOND, b, len2, 1), len2);
+    int64_t got = sample_bytes == 1 ? brine_satd8x8(first, len, second, len2) : brine_satd8x8_16(first, len, second, len2);
     measure(M_SATD, holds(FIRST, a) && holds(SECOND, b), due, got);
 }
 
@@ -138,6 +144,18 @@ static void faulted(int number)
     int n = snprintf(line, sizeof line, "record %" PRIu64 ": signal %d\n0 passed, 1 failed\n", record, number);
     if (n > 0 && write(1, line, (size_t)n) < 0) _exit(4);
     _exit(1);
+}
+
+/* How many of each measure were accepted. */
+static void print_measured(int is_deep)
+{
+    const char *between = "compared:";
+    for (int i = 0; i < MEASURES; i++) {
+        if (measures[is_deep][i] == NULL) continue;
+        printf("%s %s %" PRIu64, between, measures[is_deep][i], measured[is_deep][i]);
+        between = ",";
+    }
+    printf("\n");
 }
 
 /* By how many shifts from an even address byte lists begin, by turns. */
@@ -153,16 +171,16 @@ int main(void)
         lend_place(record & 1, record / 2 % SHIFTS);
         switch (kind) {
         case SCALE: scale(); break;
-        case REDUCE: reduction(); break;
-        case PLANES: planes(); break;
-        case INTRA: intra(); break;
+        case REDUCE: case REDUCE16: reduction(); break;
+        case PLANES: case PLANES16: planes(); break;
+        case INTRA: case INTRA16: intra(); break;
         case THRESHOLDS: threshold(); break;
         case HADAMARD: hadamard(); break;
-        case SATD: satd(); break;
+        case SATD: case SATD16: satd(); break;
         case FRESH: detector_fresh(); break;
         case STATE: detector_state(); break;
         case STEP: detector_step(); break;
-        case FILM: whole_film(); break;
+        case FILM: case FILM16: whole_film(); break;
         case LOG: log_read(); break;
         case APPEND: log_append(); break;
         default: stop("an unknown kind of record");
@@ -173,9 +191,8 @@ int main(void)
            calls, scored, cuts, ruled);
     printf("compared: %" PRIu64 " fresh detectors, %" PRIu64 " whole films of %" PRIu64 " frames, %" PRIu64 " refusals\n", fresh, films,
            film_frames, refusals);
-    printf("compared:");
-    for (int i = 0; i < MEASURES; i++) printf("%s %s %" PRIu64, i == 0 ? "" : ",", measures[i], measured[i]);
-    printf("\n");
+    print_measured(0);
+    print_measured(1);
     printf("compared: %" PRIu64 " log scans, %" PRIu64 " log reads of %" PRIu64 " records, %" PRIu64 " log appends\n", scans, reads,
            records_read, appends);
     print_failures();

@@ -30,9 +30,11 @@ for kind in checks release; do
     add "$out/$kind.txt"
     [ ! -f "$out/status" ] || { echo "beside: the oracle itself failed ($(cat "$out/status"))"; failed=$((failed + 1)); }
 done
-echo "== the command beside the crate's own driver: whole films =="
-"$here/decide.sh" "$oracles/release/oracle" "$seed" "${FILMS:-50}" "$out/decide" $emulator "$command" >"$out/decide.txt" || true
-cat "$out/decide.txt"
-add "$out/decide.txt"
+echo "== the command beside the crate's own driver: whole films of 8 bits, and of 10 and 12 =="
+for bits in "" 16; do
+    "$here/decide.sh" "$oracles/release/oracle" "$bits" "$seed" "${FILMS:-50}" "$out/decide" $emulator "$command" >"$out/decide.txt" || true
+    cat "$out/decide.txt"
+    add "$out/decide.txt"
+done
 echo "$passed passed, $failed failed"
 [ "$failed" -eq 0 ]

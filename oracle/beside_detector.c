@@ -107,7 +107,7 @@ void detector_step(void)
 
 struct frame {
     uint64_t width, height, stride, origin;
-    const uint8_t *samples;
+    const void *samples;
     size_t len;
     double inter, importance, threshold;
 };
@@ -115,17 +115,18 @@ struct frame {
 #define AS_LENT(f) (f).samples, (f).len, (f).width, (f).height, (f).stride, (f).origin
 
 /* The measures of the pair that the frame ends, by the library: in Fast mode the delta, in Standard all but the inter cost. */
-static int measure(uint64_t mode, const struct frame *before, struct frame *f)
+static int measure(uint32_t depth, uint64_t mode, const struct frame *before, struct frame *f)
 {
-    if (mode == BRINE_MODE_FAST) return brine_delta(8, AS_LENT(*before), AS_LENT(*f), &f->inter) == 0;
+    if (mode == BRINE_MODE_FAST) return OF_SAMPLES(brine_delta, depth, AS_LENT(*before), AS_LENT(*f), &f->inter) == 0;
     if (mode == BRINE_MODE_NONE) return 1;
     size_t room = (f->width / 8) * (f->height / 8);
     uint32_t *costs = malloc(room * sizeof *costs + 1);
-    uint8_t *work = malloc(f->len + 1);
+    void *work = malloc(f->len * sample_bytes + 1);
     if (costs == NULL || work == NULL) abort();
-    int64_t blocks = brine_intra_costs(8, AS_LENT(*f), work, f->len, f->width, f->height, f->stride, f->origin, costs, room);
+    int64_t blocks = OF_SAMPLES(brine_intra_costs, depth, AS_LENT(*f), work, f->len, f->width, f->height, f->stride, f->origin,
+                                costs, room);
     int ok = blocks == (int64_t)room && brine_threshold(costs, room, room, &f->threshold) == 0 &&
-             brine_importance(8, AS_LENT(*before), AS_LENT(*f), &f->importance) == 0;
+             OF_SAMPLES(brine_importance, depth, AS_LENT(*before), AS_LENT(*f), &f->importance) == 0;
     free(costs);
     free(work);
     return ok;
@@ -134,7 +135,7 @@ static int measure(uint64_t mode, const struct frame *before, struct frame *f)
 static struct frame frame(void)
 {
     struct frame f = {word(), word(), word(), word(), NULL, 0, 0, 0, 0};
-    f.samples = bytes(&f.len);
+    f.samples = samples(&f.len);
     memcpy(&f.inter, words(1), sizeof f.inter);
     return f;
 }
@@ -172,7 +173,7 @@ void whole_film(void)
     size_t score_count = word();
     const uint64_t *score = words(score_count * (1 + ENTRY));
     int ok = 1;
-    for (size_t i = 1; i < count; i++) ok = ok && measure(s[4], &f[i - 1], &f[i]);
+    for (size_t i = 1; i < count; i++) ok = ok && measure((uint32_t)s[2], s[4], &f[i - 1], &f[i]);
     ok = ok && brine_detector_fresh(s[0], s[1], (uint32_t)s[2], s[3], (uint32_t)s[4], s[5], s[6], numbers, BRINE_NUMBERS, scores,
                                     BRINE_SCORES) == 0;
     /* The crate's first frame is a keyframe; its scores come in the order of their frames. */
@@ -188,6 +189,6 @@ void whole_film(void)
     ok = ok && next_cut == cut_count && next_score == score_count;
     films++;
     film_frames += count;
-    verdict(ok, "whole film", (int64_t)count, (int64_t)n);
+    verdict(ok, sample_bytes == 1 ? "whole film" : "whole film of 16 bits", (int64_t)count, (int64_t)n);
     free(f);
 }

@@ -6,6 +6,7 @@
 #include <string.h>
 
 uint64_t record, passed, failed, refusals;
+size_t sample_bytes;
 static uint64_t *payload, *cursor, *limit;
 static size_t room;
 
@@ -34,6 +35,7 @@ enum kind next_record(void)
     cursor = payload;
     limit = payload + head[1];
     record++;
+    sample_bytes = head[0] < PLANES16 ? 1 : 2;
     return (enum kind)head[0];
 }
 
@@ -52,6 +54,14 @@ const void *bytes(size_t *count)
     *count = word();
     return words((*count + 7) / 8);
 }
+
+const uint16_t *quarters(size_t *count)
+{
+    *count = word();
+    return (const uint16_t *)words((*count + 3) / 4);
+}
+
+const void *samples(size_t *count) { return sample_bytes == 1 ? bytes(count) : quarters(count); }
 
 const uint32_t *halves(size_t *count)
 {

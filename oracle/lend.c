@@ -39,7 +39,7 @@ void *lend(enum slot slot, const void *from, size_t bytes, size_t align)
         exit(2);
     }
     unsigned char *base = slots[slot].base;
-    unsigned char *at = edge ? base + SIZE - bytes : base + GUARD + (align == 1 ? step : 0);
+    unsigned char *at = edge ? base + SIZE - bytes : base + GUARD + (align <= 2 ? step / align * align : 0);
     size_t behind = edge ? 0 : GUARD;
     memset(at - GUARD, FILL, GUARD);
     memcpy(at, from, bytes);

@@ -6,9 +6,10 @@
 
 enum slot { FIRST, SECOND, COSTS, NUMBERS, SCORES, INTER, IMPORTANCE, THRESHOLD, OUT, SLOTS };
 
-/* Whether copies end at the edge, and how far byte lists are shifted from an even address. */
+/* Whether copies end at the edge, and how far lists of bytes, and of two bytes by an even part of it, are shifted from an even
+   address. */
 void lend_place(int at_edge, size_t shift);
-/* A copy of so many bytes; `align` is 1, 4 or 8. */
+/* A copy of so many bytes; `align` is 1, 2, 4 or 8. */
 void *lend(enum slot slot, const void *from, size_t bytes, size_t align);
 /* 1 if the copy has these bytes and the bytes around it are as they were. */
 int holds(enum slot slot, const void *expected);

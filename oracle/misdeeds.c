@@ -1,19 +1,19 @@
 /* The library's functions, each with a misdeed after it: a write where none is due, or a wrong one. MISDEED names the one that is
    done. The comparison must find each of them. Linked in front of the library by the linker's --wrap. */
+#include "misdeeds.h"
 #include "brinepulley.h"
 #include <stdlib.h>
 #include <string.h>
 
 enum { ENTRY = BRINE_SCORE_DOUBLES };
 
-static int does(const char *name)
+int does(const char *name)
 {
     const char *asked = getenv("MISDEED");
     return asked != NULL && strcmp(asked, name) == 0;
 }
 
-/* A list that is lent to be read, written to. */
-static void spoil(const void *list, size_t bytes)
+void spoil(const void *list, size_t bytes)
 {
     if (bytes != 0) ((unsigned char *)list)[bytes - 1] ^= 1;
 }

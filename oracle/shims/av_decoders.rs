@@ -1,6 +1,5 @@
 //! A decoder that hands out a list of frames made before.
 use std::collections::VecDeque;
-use std::num::NonZeroU8;
 
 use num_rational::Rational32;
 use v_frame::{chroma::ChromaSubsampling, frame::Frame, pixel::Pixel, plane::Plane};
@@ -29,19 +28,20 @@ impl std::error::Error for DecoderError {}
 
 pub struct Decoder {
     details: VideoDetails,
-    frames: VecDeque<Frame<u8>>,
+    /// Samples of 16 bits hold those of both words.
+    frames: VecDeque<Frame<u16>>,
 }
 
 impl Decoder {
-    pub fn of(width: usize, height: usize, frames: Vec<Frame<u8>>) -> Self {
+    pub fn of<T: Pixel>(width: usize, height: usize, bit_depth: usize, frames: Vec<Frame<T>>) -> Self {
         let details = VideoDetails {
             width,
             height,
-            bit_depth: 8,
+            bit_depth,
             frame_rate: Rational32(1, 600),
             chroma_sampling: ChromaSubsampling::Monochrome,
         };
-        Decoder { details, frames: frames.into() }
+        Decoder { details, frames: frames.iter().map(|f| of_samples(f, |s| s.into())).collect() }
     }
 
     pub fn get_video_details(&self) -> &VideoDetails {
@@ -52,9 +52,13 @@ impl Decoder {
         let Some(f) = self.frames.pop_front() else {
             return Err(DecoderError::EndOfFile);
         };
-        let sample = |s: &u8| T::try_from(u16::from(*s)).unwrap_or_default();
-        let samples = f.y_plane.samples.iter().map(sample).collect();
-        let y_plane = Plane { samples, shape: f.y_plane.shape, mark: f.y_plane.mark };
-        Ok(Frame { y_plane, bit_depth: NonZeroU8::new(8).unwrap(), fed: f.fed })
+        Ok(of_samples(&f, |s| T::try_from(s).unwrap_or_default()))
     }
+}
+
+/// A frame with its samples in another word.
+fn of_samples<T: Pixel, U: Pixel>(f: &Frame<T>, word: fn(T) -> U) -> Frame<U> {
+    let samples = f.y_plane.samples.iter().map(|&s| word(s)).collect();
+    let y_plane = Plane { samples, shape: f.y_plane.shape, mark: f.y_plane.mark };
+    Frame { y_plane, bit_depth: f.bit_depth, fed: f.fed }
 }

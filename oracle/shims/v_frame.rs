@@ -113,8 +113,12 @@ pub mod frame {
     }
 
     impl<T: Pixel> Frame<T> {
+        /// A frame of 8 bits.
         pub fn of(y_plane: Plane<T>, fed: Fed) -> Self {
-            Frame { y_plane, bit_depth: NonZeroU8::new(8).unwrap(), fed }
+            Frame::deep(y_plane, 8, fed)
+        }
+        pub fn deep(y_plane: Plane<T>, bit_depth: u8, fed: Fed) -> Self {
+            Frame { y_plane, bit_depth: NonZeroU8::new(bit_depth).unwrap(), fed }
         }
     }
 }

@@ -9,13 +9,14 @@ use crate::values::{bad_inter, bad_other};
 
 const ODD: [u64; 6] = [0, 7, 9, 10, 1 << 32, u64::MAX];
 
-/// Settings and lengths of the state's places, with something wrong in most of them.
+/// Settings and lengths of the state's places, with something wrong in most of them. A depth that is another's is none.
 pub fn settings(r: &mut Random, mut n: [u64; 7]) -> ([u64; 7], (u64, u64)) {
-    let mut lengths = LENGTHS;
+    let (mut lengths, is_deep) = (LENGTHS, n[2] > 8);
     for _ in 0..1 + r.below(2) {
         match r.below(5) {
             0 => n[0] = r.of(&[0, 8193, u64::MAX]),
             1 => n[1] = r.of(&[0, 8193, 1 << 33]),
+            2 if is_deep => n[2] = r.of(&[0, 8, 9, 11, 13, 14, 16, u64::from(u32::MAX)]),
             2 => n[2] = r.of(&[0, 7, 9, 10, 16, u64::from(u32::MAX)]),
             3 => n[4] = r.of(&[3, 4, u64::from(u32::MAX)]),
             _ => lengths = odd_lengths(r),
@@ -29,12 +30,13 @@ fn odd_lengths(r: &mut Random) -> (u64, u64) {
     r.of(&[(n - 1, s), (n + 1, s), (n, s - 1), (n, s + 1), (0, 0), (n, 0), (0, s), (s, n)])
 }
 
-/// One wrong thing in a state.
-fn state(r: &mut Random, s: &mut State) {
+/// One wrong thing in a state. A depth that is another's is none.
+fn state(r: &mut Random, s: &mut State, is_deep: bool) {
     let (count, room) = (s.numbers[COUNT], ROOM as u64);
     match r.below(9) {
         0 => s.numbers[0] = r.of(&[0, 8193, u64::MAX, (1 << 32) + 16]),
         1 => s.numbers[1] = r.of(&[0, 8193, u64::MAX, (1 << 32) + 16]),
+        2 if is_deep => s.numbers[2] = r.of(&[0, 8, 9, 11, 12, 16, (1 << 32) + 10, (1 << 32) + 12, u64::MAX]),
         2 => s.numbers[2] = r.of(&[0, 7, 10, (1 << 32) + 8, u64::MAX]),
         3 => s.numbers[4] = r.of(&[3, (1 << 32) + 1, (1 << 32) + 2, 1 << 32, u64::MAX]),
         4 => s.numbers[OFFSET] = r.of(&[0, count, count.wrapping_add(1), u64::MAX, count.wrapping_sub(1).wrapping_add(1 << 32)]),
@@ -103,7 +105,7 @@ pub fn step(desk: &mut Desk, r: &mut Random, s: &State, c: &Call) {
     for _ in 0..r.of(&[1, 1, 1, 2, 3]) {
         match r.below(12) {
             0 => lengths = odd_lengths(r),
-            1..=3 => state(r, &mut hurt),
+            1..=3 => state(r, &mut hurt, s.numbers[2] > 8),
             4 => hurt.numbers[r.below(3) as usize] = r.of(&ODD),
             _ => call(r, s, &mut c),
         }

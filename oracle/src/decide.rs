@@ -1,24 +1,27 @@
-//! Whole films for the command `brinepulley decide`: the film as a file, and what the command wrote about it.
+//! Whole films for the command `brinepulley decide`, of either word: the film as a file, and what the command wrote about it.
 use std::fs;
 use std::io::{self, Write, stdin};
 
 use crate::films::{Film, score};
 use crate::random::Random;
+use crate::sample::Sample;
 use crate::values::same;
 
-fn film(seed: &str) -> Film {
+fn film<T: Sample>(seed: &str) -> Film<T> {
     Film::draw(&mut Random::new(seed.parse().expect("a number")))
 }
 
-/// Writes film.y4m, its inter costs, and the command's words.
-pub fn write(seed: &str, folder: &str) -> io::Result<()> {
-    let Film { settings: [width, height, _, ahead, mode, min, max], frames } = film(seed);
+/// Writes film.y4m, its inter costs, and the command's words. A sample of 16 bits is two bytes, the low one first.
+pub fn write<T: Sample>(seed: &str, folder: &str) -> io::Result<()> {
+    let Film::<T> { settings: [width, height, depth, ahead, mode, min, max], frames } = film(seed);
+    let name = if T::IS_DEEP { format!("mono{depth}") } else { "mono".to_string() };
     let mut y4m = fs::File::create(format!("{folder}/film.y4m"))?;
-    writeln!(y4m, "YUV4MPEG2 W{width} H{height} F1:600 Ip A1:1 Cmono")?;
+    writeln!(y4m, "YUV4MPEG2 W{width} H{height} F1:600 Ip A1:1 C{name}")?;
     for f in &frames {
         y4m.write_all(b"FRAME\n")?;
         for row in f.y_plane.rows() {
-            y4m.write_all(row)?;
+            let bytes = |s: &T| s.number().to_le_bytes().into_iter().take(size_of::<T>());
+            y4m.write_all(&row.iter().flat_map(bytes).collect::<Vec<u8>>())?;
         }
     }
     let costs: Vec<String> = frames.iter().skip(1).map(|f| format!("{:e}\n", f.fed.inter)).collect();
@@ -31,8 +34,8 @@ pub fn write(seed: &str, folder: &str) -> io::Result<()> {
 
 /// Whether the lines on the standard input are what the crate finds: number, cut, five numbers, release number; and that a large
 /// change is marked where it is no cut.
-pub fn compare(seed: &str) -> bool {
-    let film = film(seed);
+pub fn compare<T: Sample>(seed: &str) -> bool {
+    let film = film::<T>(seed);
     let Some(found) = film.found() else { return false };
     let lines: Vec<String> = stdin().lines().map_while(Result::ok).skip(1).collect();
     let count = film.frames.len();

@@ -5,13 +5,25 @@ use crate::desk::{Desk, LENGTHS, put_call, put_state};
 use crate::random::Random;
 use crate::reading::{self, Call, NONE, STANDARD, Score, State};
 use crate::run::{Detector, Film, LOOKAHEAD_MOST, detector, possible};
+use crate::sample::Sample;
 use crate::sizes::{LAST, LENGTH, NUMBERS, OFFSET, ROOM, SCORE, SCORES, SET_LIMIT};
 use crate::stream::Kind;
 use crate::tally::Ran;
 use crate::values::{Taste, any_real, same};
 
+/// Which depths are drawn: that of a byte, or those of two.
+#[derive(Clone, Copy)]
+pub enum Depths {
+    Byte,
+    Deep,
+}
+
 /// Width, height, depth, lookahead, mode, min, max.
-fn settings(r: &mut Random) -> [u64; 7] {
+fn settings(r: &mut Random, depths: Depths) -> [u64; 7] {
+    let depth = match depths {
+        Depths::Byte => 8,
+        Depths::Deep => u16::depth(r),
+    };
     let mode = r.of(&[0, 1, 1, 1, 2, 2, 2, 2]);
     let sides = [1, 2, 8, 16, 240, 241, 480, 481, 1080, 1600, 1601, 8192];
     let (width, height) = if r.once_in(2) { (r.of(&sides[..5]), r.of(&sides)) } else { (r.of(&sides), r.of(&sides[5..])) };
@@ -27,7 +39,7 @@ fn settings(r: &mut Random) -> [u64; 7] {
     };
     let (min, max) = (bound(r), bound(r));
     let max = if r.once_in(4) { max } else { u64::MAX };
-    [width, height, 8, lookahead, mode, min, max]
+    [width, height, depth, lookahead, mode, min, max]
 }
 
 /// A refused or accepted `fresh`; the state that the port then has.
@@ -122,9 +134,9 @@ fn film(desk: &mut Desk, r: &mut Random, mut s: State, first: u64, calls: u64) {
 }
 
 /// Any state that refusal 11 lets in, reachable or not.
-fn any_state(r: &mut Random) -> State {
+fn any_state(r: &mut Random, depths: Depths) -> State {
     let mut s = State { numbers: [0; NUMBERS], places: [0.0; SCORES] };
-    s.numbers[..7].copy_from_slice(&settings(r));
+    s.numbers[..7].copy_from_slice(&settings(r, depths));
     s.places.iter_mut().for_each(|x| *x = any_real(r));
     let taste = Taste::new(r);
     let most = if s.ahead() == 5 { 10 } else { ROOM as u64 - 1 };
@@ -133,7 +145,7 @@ fn any_state(r: &mut Random) -> State {
     for place in s.places.chunks_mut(SCORE).take(count as usize) {
         place[0] = taste.inter(r);
         if r.once_in(2) {
-            place[1] = taste.importance(r);
+            place[1] = taste.importance(r, s.numbers[2]);
             place[2] = taste.inter(r);
             place[3] = taste.inter(r);
             place[4] = taste.threshold(r);
@@ -152,10 +164,10 @@ fn any_state(r: &mut Random) -> State {
 }
 
 /// One run: a fresh detector or a given state, and a film over it.
-pub fn run(desk: &mut Desk, r: &mut Random) {
+pub fn run(desk: &mut Desk, r: &mut Random, depths: Depths) {
     let blank = State { numbers: [r.word(); NUMBERS], places: [any_real(r); SCORES] };
     if r.once_in(3) {
-        let s = any_state(r);
+        let s = any_state(r, depths);
         put_state(desk, &s);
         let last = s.numbers[LAST];
         let first = if last == 0 { r.of(&[1, 2, 9, 1000]) } else { last + 1 };
@@ -165,12 +177,12 @@ pub fn run(desk: &mut Desk, r: &mut Random) {
     }
     put_state(desk, &blank);
     if r.once_in(4) {
-        let sound = settings(r);
+        let sound = settings(r, depths);
         let (n, lengths) = damage::settings(r, sound);
         fresh(desk, &n, lengths, &blank);
         put_state(desk, &blank);
     }
-    let s = fresh(desk, &settings(r), LENGTHS, &blank);
+    let s = fresh(desk, &settings(r, depths), LENGTHS, &blank);
     let first = match r.below(8) {
         0..=4 => 1,
         5 => (1 << 32) - 1 - r.below(4),

@@ -1,4 +1,4 @@
-//! Document 01's values at the edges, the starred ones and the others.
+//! Document 01's values at the edges, the starred ones and the others; and the same at document 02's depths.
 use crate::desk::{Desk, LENGTHS, put_state};
 use crate::detector_cases::accepted;
 use crate::list_cases::{satd_of, scale_of};
@@ -7,47 +7,58 @@ use crate::plane_cases::{intra_of, pair_of};
 use crate::random::Random;
 use crate::reading::{self, FAST, NONE, STANDARD, State};
 use crate::run::Film;
+use crate::sample::{Sample, most};
 use crate::sizes::{LAST, LENGTH, NUMBERS, SCORES, SET_LIMIT};
 
-pub fn flat(width: u64, height: u64, value: u8) -> Lent {
-    Lent { samples: vec![value; (width * height) as usize], width, height, stride: width, origin: 0 }
+pub fn flat<T: Sample>(width: u64, height: u64, value: u64) -> Lent<T> {
+    Lent { samples: vec![T::of(value); (width * height) as usize], width, height, stride: width, origin: 0 }
 }
 
 /// A block whose samples add up to `sum`.
-fn summing(sum: usize) -> Lent {
+fn summing<T: Sample>(sum: usize) -> Lent<T> {
     let mut l = flat(8, 8, 0);
-    l.samples[..sum].fill(1);
+    l.samples[..sum].fill(T::of(1));
     l
 }
 
-fn measures(desk: &mut Desk) {
+fn scales(desk: &mut Desk) {
     for (side, mode) in [(240, 1), (241, 1), (1600, 1), (1601, 1), (1601, 2), (8192, 1), (1, 1), (0, 1), (8193, 0)] {
         scale_of(desk, side, 8192, mode);
     }
+}
+
+pub fn measures<T: Sample>(desk: &mut Desk, depth: u64) {
+    let (most, middle) = (most(depth), 1 << (depth - 1));
+    let pair = |desk: &mut Desk, a: Lent<T>, b: Lent<T>| pair_of(desk, depth, &a, &b);
     for value in [6, 7] {
-        pair_of(desk, 8, &flat(8, 8, 0), &flat(8, 8, value));
+        pair(desk, flat(8, 8, 0), flat(8, 8, value));
     }
     for sum in [31, 32] {
-        pair_of(desk, 8, &flat(8, 8, 0), &summing(sum));
+        pair(desk, flat(8, 8, 0), summing(sum));
     }
-    pair_of(desk, 8, &flat(15, 8, 1), &flat(15, 8, 200));
-    pair_of(desk, 8, &flat(7, 8, 1), &flat(7, 8, 200));
-    pair_of(desk, 8, &flat(8192, 1, 0), &flat(8192, 1, 255));
-    pair_of(desk, 8, &flat(8193, 1, 0), &flat(8193, 1, 255));
-    let mut one = [128u8; 64];
-    one[27] = 129;
-    for block in [[128; 64], [0; 64], [255; 64], one] {
-        satd_of(desk, &block, &[128; 64]);
+    pair(desk, flat(15, 8, 1), flat(15, 8, 200));
+    pair(desk, flat(7, 8, 1), flat(7, 8, 200));
+    pair(desk, flat(8192, 1, 0), flat(8192, 1, most));
+    pair(desk, flat(8193, 1, 0), flat(8193, 1, most));
+    let mut one = [T::of(middle); 64];
+    one[27] = T::of(middle + 1);
+    for block in [[T::of(middle); 64], [T::of(0); 64], [T::of(most); 64], one] {
+        satd_of(desk, &block, &[T::of(middle); 64]);
         let plane = Lent { samples: block.to_vec(), ..flat(8, 8, 0) };
-        intra_of(desk, 8, &plane, &flat(8, 8, 3), &[9, 9]);
+        intra_of(desk, depth, &plane, &flat(8, 8, 3), &[9, 9]);
     }
-    intra_of(desk, 8, &flat(15, 17, 4), &flat(15, 17, 3), &[9, 9]);
-    intra_of(desk, 8, &flat(7, 8, 4), &flat(7, 8, 3), &[]);
+    intra_of::<T>(desk, depth, &flat(15, 17, 4), &flat(15, 17, 3), &[9, 9]);
+    intra_of::<T>(desk, depth, &flat(7, 8, 4), &flat(7, 8, 3), &[]);
 }
 
 /// A difference that 32 bits do not hold.
 pub fn large(desk: &mut Desk) {
-    pair_of(desk, 8, &flat(4105, 4105, 0), &flat(4105, 4105, 255));
+    pair_of::<u8>(desk, 8, &flat(4105, 4105, 0), &flat(4105, 4105, most(8)));
+}
+
+/// The same of 12 bits.
+pub fn large_deep(desk: &mut Desk) {
+    pair_of::<u16>(desk, 12, &flat(1025, 1025, 0), &flat(1025, 1025, most(12)));
 }
 
 fn fresh(settings: [u64; 7]) -> State {
@@ -97,8 +108,23 @@ fn last_number(desk: &mut Desk) {
     crate::damage::refused(desk, LENGTHS, &s, &c, reading::step_fault(LENGTHS, &s, &c));
 }
 
+/// A first call of two frames whose cost is at the threshold of a depth, and one just below it: in Fast mode its delta, which the
+/// film has of 4,096 samples, in Standard its importance.
+pub fn thresholds(desk: &mut Desk) {
+    for (depth, fast, importance) in [(8, 18.0, 7.0f64), (10, 22.5, 8.75), (12, 27.0, 10.5)] {
+        let settings = |mode| [64, 64, depth, 4, mode, 0, 1000];
+        for delta in [fast, fast - 1.0 / 4096.0] {
+            first(desk, settings(FAST), 2, 1, 0, [delta, 0.0, 0.0]);
+        }
+        for importance in [importance, importance.next_down()] {
+            first(desk, settings(STANDARD), 2, 1, 0, [1000.0, importance, 0.0]);
+        }
+    }
+}
+
 pub fn all(desk: &mut Desk) {
-    measures(desk);
+    scales(desk);
+    measures::<u8>(desk, 8);
     calls(desk);
     last_number(desk);
 }

@@ -16,4 +16,10 @@ pub enum Kind {
     Log = 11,
     Append = 12,
     Reduce = 13,
+    // The same over samples of 16 bits.
+    Planes16 = 14,
+    Intra16 = 15,
+    Satd16 = 16,
+    Film16 = 17,
+    Reduce16 = 18,
 }

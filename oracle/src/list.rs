@@ -1,16 +1,18 @@
 //! What stands in the fixed list: the values at the edges, then measures and calls from a seed. Planes are small.
 use crate::damage;
 use crate::desk::{Desk, LENGTHS, put_state};
-use crate::detector_cases;
+use crate::deep_cases;
+use crate::detector_cases::{self, Depths};
 use crate::edges;
 use crate::list_cases;
 use crate::log_cases;
 use crate::log_edges;
 use crate::measures_reading::{Lent, intra_fault};
-use crate::plane_cases::{depth, hurt_one, intra_of, pair_of, shaped};
+use crate::plane_cases::{differ, hurt_one, intra_of, or_odd, pair_of, shaped};
 use crate::random::Random;
 use crate::reading::{self, Call, ROOM, SCORES, STANDARD, State};
 use crate::reduce_cases;
+use crate::sample::{Sample, most};
 
 /// How often each measure is drawn; some are refused. How many calls the crate answers.
 const MEASURES: u64 = 150;
@@ -22,6 +24,9 @@ const LOG_MOST: u64 = 12;
 const RECORDERS: u64 = 5;
 /// How many reductions are drawn.
 const REDUCTIONS: u64 = 25;
+/// The same of 16 bits.
+const DEEP_MEASURES: u64 = 75;
+const DEEP_CALLS: u64 = 600;
 
 fn sides(r: &mut Random) -> (u64, u64) {
     if r.once_in(2) {
@@ -31,52 +36,61 @@ fn sides(r: &mut Random) -> (u64, u64) {
 }
 
 /// All samples, one, the first and the last, a few near each other, two that differ by 1.
-fn samples(r: &mut Random, len: usize) -> Vec<u8> {
-    let base = r.below(256);
-    let (low, span) = r.of(&[(0, 256), (base, 1), (255, 2), (base, 4), (base, 2), (0, 2)]);
-    (0..len).map(|_| (low + r.below(span)) as u8).collect()
+fn samples<T: Sample>(r: &mut Random, bits: u64, len: usize) -> Vec<T> {
+    let most = most(bits);
+    let base = r.below(most + 1);
+    let (low, span) = r.of(&[(0, most + 1), (base, 1), (most, 2), (base, 4), (base, 2), (0, 2)]);
+    (0..len).map(|_| T::of((low + r.below(span)) & most)).collect()
 }
 
-fn planes(r: &mut Random) -> (Lent, Lent) {
+fn plane<T: Sample>(r: &mut Random, depth: u64, width: u64, height: u64) -> Lent<T> {
+    let (mut l, len) = shaped(r, width, height);
+    l.samples = samples(r, depth, len);
+    l
+}
+
+fn planes<T: Sample>(r: &mut Random, depth: u64) -> (Lent<T>, Lent<T>) {
     let (width, height) = sides(r);
-    let plane = |r: &mut Random| {
-        let (mut l, len) = shaped(r, width, height);
-        l.samples = samples(r, len);
-        l
-    };
-    (plane(r), plane(r))
+    (plane(r, depth, width, height), plane(r, depth, width, height))
 }
 
-fn pair(desk: &mut Desk, r: &mut Random) {
-    let (mut a, mut b) = planes(r);
+fn pair<T: Sample>(desk: &mut Desk, r: &mut Random) {
+    let depth = T::depth(r);
+    let (mut a, mut b) = planes(r, depth);
     if r.once_in(5) {
         // Two planes that differ in one sample.
         b = a.clone();
-        let at = r.below(b.samples.len() as u64) as usize;
-        b.samples[at] ^= 1 << r.below(8);
+        differ(r, depth, &mut b.samples);
     }
+    deep_cases::exceed_one(r, depth, &mut a, &mut b);
     while r.once_in(4) {
         hurt_one(r, &mut a, &mut b);
     }
-    pair_of(desk, depth(r), &a, &b);
+    let depth = or_odd::<T>(r, depth);
+    pair_of::<T>(desk, depth, &a, &b);
 }
 
-fn intra(desk: &mut Desk, r: &mut Random) {
-    let (mut a, mut work) = planes(r);
+fn intra<T: Sample>(desk: &mut Desk, r: &mut Random) {
+    let depth = T::depth(r);
+    let (mut a, mut work) = planes(r, depth);
     let blocks = a.blocks();
+    deep_cases::exceed_first(r, depth, &mut a, &mut work);
     while r.once_in(6) {
         hurt_one(r, &mut a, &mut work);
     }
     let room = if r.once_in(12) { r.below(blocks + 1) } else { blocks + r.below(3) };
     let costs = vec![r.word() as u32; room as usize];
-    intra_of(desk, depth(r), &a, &work, &costs);
+    let depth = or_odd::<T>(r, depth);
+    intra_of::<T>(desk, depth, &a, &work, &costs);
 }
 
-fn satd(desk: &mut Desk, r: &mut Random) {
-    let mut lists = [samples(r, 64), if r.once_in(4) { vec![r.of(&[0, 128, 255]); 64] } else { samples(r, 64) }];
+fn satd<T: Sample>(desk: &mut Desk, r: &mut Random) {
+    let bits = list_cases::satd_bits::<T>(r);
+    let flat = |r: &mut Random| vec![T::of(r.of(&[0, most(bits) / 2 + 1, most(bits)])); 64];
+    let mut lists = [samples(r, bits, 64), if r.once_in(4) { flat(r) } else { samples(r, bits, 64) }];
     if r.once_in(15) {
         let which = r.below(2) as usize;
-        lists[which].resize(r.of(&[0, 16, 63, 65, 128]), 0);
+        lists[which].resize(r.of(&[0, 16, 63, 65, 128]), T::of(0));
     }
     list_cases::satd_of(desk, &lists[0], &lists[1]);
 }
@@ -144,7 +158,7 @@ fn orders_of_steps(desk: &mut Desk) {
 
 /// The same of planes: 5, then 1 and 2 of the first, 1 and 2 of the second, 3, 4; and of lists: 2, 10.
 fn orders_of_measures(desk: &mut Desk) {
-    let plane = |width: u64, samples: usize| Lent { samples: vec![3; samples], width, height: 8, stride: 9, origin: 0 };
+    let plane = |width: u64, samples: usize| Lent { samples: vec![3u8; samples], width, height: 8, stride: 9, origin: 0 };
     let sound = plane(8, 72);
     for (depth, a, b, costs, due) in [
         (9, plane(0, 72), sound.clone(), 1, 5),
@@ -167,18 +181,19 @@ pub fn all(desk: &mut Desk, r: &mut Random) {
     orders_of_measures(desk);
     for _ in 0..MEASURES {
         list_cases::scale(desk, r);
-        pair(desk, r);
-        intra(desk, r);
+        pair::<u8>(desk, r);
+        intra::<u8>(desk, r);
         list_cases::threshold(desk, r);
         hadamard(desk, r, 4);
         hadamard(desk, r, 8);
-        satd(desk, r);
+        satd::<u8>(desk, r);
     }
     while desk.tally.calls < CALLS {
-        detector_cases::run(desk, r);
+        detector_cases::run(desk, r, Depths::Byte);
     }
     logs(desk, r);
-    reductions(desk, r);
+    reductions::<u8>(desk, r, REDUCTIONS);
+    deep(desk, r);
 }
 
 /// The logs come behind the detector: the lines above are the same with them and without.
@@ -193,23 +208,42 @@ fn logs(desk: &mut Desk, r: &mut Random) {
     }
 }
 
-/// The reductions come last, for the same reason. Those that are drawn have two to four squares a side.
-fn reductions(desk: &mut Desk, r: &mut Random) {
-    reduce_cases::edges(desk);
-    reduce_cases::orders(desk);
-    for _ in 0..REDUCTIONS {
+/// The reductions come behind them, for the same reason. Those that are drawn have two to four squares a side.
+fn reductions<T: Sample>(desk: &mut Desk, r: &mut Random, count: u64) {
+    for &depth in T::DEPTHS {
+        reduce_cases::edges::<T>(desk, depth);
+        reduce_cases::orders::<T>(desk, depth);
+    }
+    for _ in 0..count {
+        let depth = T::depth(r);
         let factor = r.of(&[1, 2, 2, 4, 4, 8]);
         let sides = [0; 2].map(|_| r.from_to(2, if factor == 8 { 2 } else { 4 }));
-        let plane = |r: &mut Random, width: u64, height: u64| {
-            let (mut l, len) = shaped(r, width, height);
-            l.samples = samples(r, len);
-            l
-        };
         let [width, height] = sides.map(|n| n * factor + r.below(factor));
-        let (mut a, mut reduced) = (plane(r, width, height), plane(r, sides[0], sides[1]));
+        let (mut a, mut reduced) = (plane(r, depth, width, height), plane(r, depth, sides[0], sides[1]));
+        deep_cases::exceed_first(r, depth, &mut a, &mut reduced);
         if r.once_in(4) {
             hurt_one(r, &mut a, &mut reduced);
         }
-        reduce_cases::reduce_of(desk, depth(r), factor, &a, &reduced);
+        let depth = or_odd::<T>(r, depth);
+        reduce_cases::reduce_of::<T>(desk, depth, factor, &a, &reduced);
     }
+}
+
+/// Samples of 16 bits, and detectors of 10 and 12, come last.
+fn deep(desk: &mut Desk, r: &mut Random) {
+    deep_cases::edges(desk);
+    edges::thresholds(desk);
+    for &depth in u16::DEPTHS {
+        edges::measures::<u16>(desk, depth);
+    }
+    for _ in 0..DEEP_MEASURES {
+        pair::<u16>(desk, r);
+        intra::<u16>(desk, r);
+        satd::<u16>(desk, r);
+    }
+    let due = desk.tally.calls + DEEP_CALLS;
+    while desk.tally.calls < due {
+        detector_cases::run(desk, r, Depths::Deep);
+    }
+    reductions::<u16>(desk, r, REDUCTIONS);
 }

@@ -8,6 +8,7 @@ use crate::measures_reading as read;
 use crate::plane_cases::put_threshold;
 use crate::random::Random;
 use crate::reading;
+use crate::sample::{Sample, most};
 use crate::stream::Kind;
 use crate::tally::Ran;
 
@@ -63,41 +64,50 @@ fn runs(list: &[i32], side: usize) -> Ran {
     ran(|| Scenes::door_hadamard(&mut list))
 }
 
-pub fn satd(desk: &mut Desk, r: &mut Random) {
+/// The bits of the samples of a SATD: any that two bytes hold may be there.
+pub fn satd_bits<T: Sample>(r: &mut Random) -> u64 {
+    if T::IS_DEEP { r.of(&[10, 12, 16, 16]) } else { 8 }
+}
+
+pub fn satd<T: Sample>(desk: &mut Desk, r: &mut Random) {
+    let most = most(satd_bits::<T>(r));
+    let middle = most / 2 + 1;
     let taste = r.below(4);
-    let base = r.below(256) as u8;
+    let base = r.below(most + 1);
     let mut sample = |_| match taste {
-        0 => r.word() as u8,
-        1 => r.of(&[0, 255]),
-        2 => base.saturating_add(r.below(3) as u8),
-        _ => r.of(&[128, 128, 128, 129]),
+        0 => r.word() & most,
+        1 => r.of(&[0, most]),
+        2 => (base + r.below(3)).min(most),
+        _ => r.of(&[middle, middle, middle, middle + 1]),
     };
-    let mut lists: Vec<Vec<u8>> = (0..2).map(|_| (0..64).map(&mut sample).collect()).collect();
+    let mut lists: Vec<Vec<T>> = (0..2).map(|_| (0..64).map(&mut sample).map(T::of).collect()).collect();
     if r.once_in(8) {
-        lists[1] = vec![r.of(&[0, 128, 255]); 64];
+        lists[1] = vec![T::of(r.of(&[0, middle, most])); 64];
     }
     if r.once_in(20) {
         let which = r.below(2) as usize;
-        lists[which].resize(r.of(&[0, 16, 63, 65, 128]), 0);
+        lists[which].resize(r.of(&[0, 16, 63, 65, 128]), T::of(0));
     }
     satd_of(desk, &lists[0], &lists[1]);
 }
 
-pub fn satd_of(desk: &mut Desk, a: &[u8], b: &[u8]) {
+pub fn satd_of<T: Sample>(desk: &mut Desk, a: &[T], b: &[T]) {
     let mut due = read::satd(a, b);
     if due < 0 {
         desk.tally.refusal(2, Ran::NotAsked);
     } else {
         let shape = PlaneGeometry { width: 8, height: 8, stride: 8, origin: 0 };
-        let block = |l: &[u8]| Plane::over(l.to_vec(), shape);
-        let theirs = i64::from(Scenes::door_satd(&block(a), &block(b)));
+        let block = |l: &[T]| Plane::over(l.to_vec(), shape);
+        let theirs = i64::from(scenes::SceneChangeDetector::<T>::door_satd(&block(a), &block(b)));
         if theirs != due {
             desk.tally.differs("a SATD");
         }
         due = theirs;
         desk.tally.measures += 1;
     }
-    desk.out.bytes(a).bytes(b).answer(due).end(Kind::Satd);
+    T::put(desk.out, a);
+    T::put(desk.out, b);
+    desk.out.answer(due).end(T::KINDS.satd);
 }
 
 /// The threshold of any list of costs, which no film need have: by the reading alone.

@@ -1,18 +1,35 @@
-//! Document 01's measures as a program: which refusal is due, and the measures in exact numbers.
+//! Document 01's measures as a program, with document 02's deep camera: which refusal is due, and the measures in exact numbers.
+use crate::sample::Sample;
 
 /// A plane as it is lent.
 #[derive(Clone)]
-pub struct Lent {
-    pub samples: Vec<u8>,
+pub struct Lent<T> {
+    pub samples: Vec<T>,
     pub width: u64,
     pub height: u64,
     pub stride: u64,
     pub origin: u64,
 }
 
-impl Lent {
-    pub fn sample(&self, x: u64, y: u64) -> u8 {
-        self.samples[(self.origin + y * self.stride + x) as usize]
+/// 5: "a depth other than 8, 10, 12, or one that doesn't suit the plane's word". 8 bits suit a byte, 10 and 12 two.
+fn suits<T>(depth: u64) -> bool {
+    match size_of::<T>() {
+        1 => depth == 8,
+        _ => depth == 10 || depth == 12,
+    }
+}
+
+/// "128 times 2 to the power depth − 8".
+fn flat_sample(depth: u64) -> u64 {
+    128 << (depth - 8)
+}
+
+impl<T: Sample> Lent<T> {
+    pub fn place(&self, x: u64, y: u64) -> usize {
+        (self.origin + y * self.stride + x) as usize
+    }
+    pub fn sample(&self, x: u64, y: u64) -> u64 {
+        self.samples[self.place(x, y)].number()
     }
     pub fn blocks(&self) -> u64 {
         (self.width / 8) * (self.height / 8)
@@ -26,10 +43,15 @@ impl Lent {
         let end = origin + u128::from(self.height - 1) * stride + u128::from(self.width);
         if end > self.samples.len() as u128 { 2 } else { 0 }
     }
+    /// 16: "a visible sample at or above 2 to the depth".
+    fn exceeds(&self, depth: u64) -> bool {
+        let limit = 1 << depth;
+        (0..self.height).any(|y| (0..self.width).any(|x| self.sample(x, y) >= limit))
+    }
 }
 
 /// 1 and 2 of the first plane, then of the second.
-fn each_fault(a: &Lent, b: &Lent) -> u32 {
+fn each_fault<T: Sample>(a: &Lent<T>, b: &Lent<T>) -> u32 {
     for plane in [a, b] {
         let fault = plane.fault();
         if fault != 0 {
@@ -39,8 +61,9 @@ fn each_fault(a: &Lent, b: &Lent) -> u32 {
     0
 }
 
-pub fn planes_fault(depth: u64, a: &Lent, b: &Lent) -> u32 {
-    if depth != 8 {
+/// What is tested before any sample is looked at.
+fn shapes_fault<T: Sample>(depth: u64, a: &Lent<T>, b: &Lent<T>) -> u32 {
+    if !suits::<T>(depth) {
         return 5;
     }
     match each_fault(a, b) {
@@ -49,19 +72,28 @@ pub fn planes_fault(depth: u64, a: &Lent, b: &Lent) -> u32 {
     }
 }
 
-pub fn intra_fault(depth: u64, a: &Lent, work: &Lent, costs: usize) -> u32 {
-    match planes_fault(depth, a, work) {
+pub fn planes_fault<T: Sample>(depth: u64, a: &Lent<T>, b: &Lent<T>) -> u32 {
+    match shapes_fault(depth, a, b) {
+        0 if a.exceeds(depth) || b.exceeds(depth) => 16,
+        fault => fault,
+    }
+}
+
+/// 16 comes after 4, "work plane aside".
+pub fn intra_fault<T: Sample>(depth: u64, a: &Lent<T>, work: &Lent<T>, costs: usize) -> u32 {
+    match shapes_fault(depth, a, work) {
         0 if (costs as u64) < a.blocks() => 4,
+        0 if a.exceeds(depth) => 16,
         fault => fault,
     }
 }
 
 /// Not document 01's: the header's words. The plane to reduce, and the one that takes it reduced.
-pub fn reduce_fault(depth: u64, factor: u64, a: &Lent, reduced: &Lent) -> u32 {
+pub fn reduce_fault<T: Sample>(depth: u64, factor: u64, a: &Lent<T>, reduced: &Lent<T>) -> u32 {
     if ![1, 2, 4, 8, 16, 32].contains(&factor) {
         return 6;
     }
-    if depth != 8 {
+    if !suits::<T>(depth) {
         return 5;
     }
     if a.width < factor || a.height < factor {
@@ -70,45 +102,46 @@ pub fn reduce_fault(depth: u64, factor: u64, a: &Lent, reduced: &Lent) -> u32 {
     let sides = (a.width / factor, a.height / factor);
     match each_fault(a, reduced) {
         0 if (reduced.width, reduced.height) != sides => 3,
+        0 if a.exceeds(depth) => 16,
         fault => fault,
     }
 }
 
 /// The samples of the lent plane afterwards: of each whole square the sum and half its number of samples, over that number.
-pub fn reduce(factor: u64, a: &Lent, reduced: &Lent) -> Vec<u8> {
+pub fn reduce<T: Sample>(factor: u64, a: &Lent<T>, reduced: &Lent<T>) -> Vec<T> {
     let (mut after, number) = (reduced.samples.clone(), factor * factor);
     for y in 0..a.height / factor {
         for x in 0..a.width / factor {
-            let sample = |i: u64| u64::from(a.sample(x * factor + i % factor, y * factor + i / factor));
+            let sample = |i: u64| a.sample(x * factor + i % factor, y * factor + i / factor);
             let sum: u64 = (0..number).map(sample).sum();
-            after[(reduced.origin + y * reduced.stride + x) as usize] = ((sum + number / 2) / number) as u8;
+            after[reduced.place(x, y)] = T::of((sum + number / 2) / number);
         }
     }
     after
 }
 
-pub fn difference(a: &Lent, b: &Lent) -> u64 {
+pub fn difference<T: Sample>(a: &Lent<T>, b: &Lent<T>) -> u64 {
     let mut sum = 0;
     for y in 0..a.height {
         for x in 0..a.width {
-            sum += u64::from(a.sample(x, y).abs_diff(b.sample(x, y)));
+            sum += a.sample(x, y).abs_diff(b.sample(x, y));
         }
     }
     sum
 }
 
 /// The rounded mean of the whole block with its first sample at (x, y).
-fn mean(p: &Lent, x: u64, y: u64) -> u64 {
+fn mean<T: Sample>(p: &Lent<T>, x: u64, y: u64) -> u64 {
     let mut sum = 0;
     for row in 0..8 {
         for column in 0..8 {
-            sum += u64::from(p.sample(x + column, y + row));
+            sum += p.sample(x + column, y + row);
         }
     }
     (sum + 32) / 64
 }
 
-pub fn importance_total(a: &Lent, b: &Lent) -> u64 {
+pub fn importance_total<T: Sample>(a: &Lent<T>, b: &Lent<T>) -> u64 {
     let mut total = 0;
     for y in (0..a.height / 8).map(|y| y * 8) {
         for x in (0..a.width / 8).map(|x| x * 8) {
@@ -147,26 +180,27 @@ pub fn hadamard_fault(list: &[i32], side: usize) -> u32 {
     if list.iter().any(beyond) { 10 } else { 0 }
 }
 
-pub fn satd(a: &[u8], b: &[u8]) -> i64 {
+pub fn satd<T: Sample>(a: &[T], b: &[T]) -> i64 {
     if a.len() != 64 || b.len() != 64 {
         return -2;
     }
-    let mut list: Vec<i32> = a.iter().zip(b).map(|(&x, &y)| i32::from(x) - i32::from(y)).collect();
+    let mut list: Vec<i32> = a.iter().zip(b).map(|(&x, &y)| x.number() as i32 - y.number() as i32).collect();
     hadamard(&mut list, 8);
     let sum: i64 = list.iter().map(|x| i64::from(x.unsigned_abs())).sum();
     (sum + 4) / 8
 }
 
 /// The costs in row order, and the work plane after them.
-pub fn intra(a: &Lent, work: &Lent) -> (Vec<u32>, Vec<u8>) {
+pub fn intra<T: Sample>(depth: u64, a: &Lent<T>, work: &Lent<T>) -> (Vec<u32>, Vec<T>) {
     let (mut costs, mut after) = (Vec::new(), work.samples.clone());
+    let flat = T::of(flat_sample(depth));
     for y in (0..a.height / 8).map(|y| y * 8) {
         for x in (0..a.width / 8).map(|x| x * 8) {
-            let block: Vec<u8> = (0..64).map(|i| a.sample(x + i % 8, y + i / 8)).collect();
-            costs.push(satd(&block, &[128; 64]) as u32);
+            let block: Vec<T> = (0..64).map(|i| a.samples[a.place(x + i % 8, y + i / 8)]).collect();
+            costs.push(satd(&block, &[flat; 64]) as u32);
             for row in 0..8 {
-                let at = (work.origin + (y + row) * work.stride + x) as usize;
-                after[at..at + 8].fill(128);
+                let at = work.place(x, y + row);
+                after[at..at + 8].fill(flat);
             }
         }
     }

@@ -11,6 +11,40 @@ const BEFORE: [u64; 1] = [5];
 const TORN_BEFORE: [u64; 1] = [47];
 const ENTRY: usize = 5;
 
+/// A sample's word: how its samples are read, and the letters of the calls over them. a to f are digits.
+struct Word {
+    samples: fn(&mut Reader) -> Vec<u64>,
+    difference: char,
+    total: char,
+    delta: char,
+    importance: char,
+    costs: char,
+    reduction: char,
+    satd: char,
+}
+
+const BYTE: Word = Word {
+    samples: |r| r.bytes(),
+    difference: 'P',
+    total: 'M',
+    delta: 'D',
+    importance: 'I',
+    costs: 'C',
+    reduction: 'V',
+    satd: 'B',
+};
+
+const DEEP: Word = Word {
+    samples: |r| r.quarters(),
+    difference: 'Q',
+    total: 'O',
+    delta: 'U',
+    importance: 'J',
+    costs: 'K',
+    reduction: 'W',
+    satd: 'Y',
+};
+
 pub struct Paper {
     text: String,
     memory: Memory,
@@ -30,20 +64,24 @@ impl Paper {
                 let sides = r.words(3);
                 self.call('S', r.word(), &sides, &[]);
             }
-            Kind::Planes => self.planes(&mut r),
-            Kind::Intra => self.intra(&mut r),
+            Kind::Planes => self.planes(&mut r, &BYTE),
+            Kind::Planes16 => self.planes(&mut r, &DEEP),
+            Kind::Intra => self.intra(&mut r, &BYTE),
+            Kind::Intra16 => self.intra(&mut r, &DEEP),
             Kind::Threshold => self.threshold(&mut r),
             Kind::Hadamard => self.hadamard(&mut r),
-            Kind::Satd => self.satd(&mut r),
+            Kind::Satd => self.satd(&mut r, &BYTE),
+            Kind::Satd16 => self.satd(&mut r, &DEEP),
             Kind::Fresh => self.fresh(&mut r),
             Kind::State => self.given = Some([r.words(NUMBERS), r.reals()]),
             Kind::Step => self.step(&mut r),
             Kind::Log => self.log(&mut r),
             Kind::Append => self.append(&mut r),
-            Kind::Reduce => self.reduce(&mut r),
-            Kind::End | Kind::Film => (),
+            Kind::Reduce => self.reduce(&mut r, &BYTE),
+            Kind::Reduce16 => self.reduce(&mut r, &DEEP),
+            Kind::End | Kind::Film | Kind::Film16 => (),
         }
-        assert!(matches!(kind, Kind::End | Kind::Film) || r.0.is_empty());
+        assert!(matches!(kind, Kind::End | Kind::Film | Kind::Film16) || r.0.is_empty());
     }
 
     fn put(&mut self, at: usize, words: &[u64]) {
@@ -63,21 +101,21 @@ impl Paper {
     }
 
     /// A plane's samples are put. Its length, and its width, height, stride and origin.
-    fn plane(&mut self, at: usize, r: &mut Reader) -> Vec<u64> {
-        let (shape, samples) = (r.words(4), r.bytes());
+    fn plane(&mut self, at: usize, r: &mut Reader, word: &Word) -> Vec<u64> {
+        let (shape, samples) = (r.words(4), (word.samples)(r));
         self.put(at, &samples);
         [vec![samples.len() as u64], shape].concat()
     }
 
-    fn planes(&mut self, r: &mut Reader) {
+    fn planes(&mut self, r: &mut Reader, word: &Word) {
         let depth = r.words(1);
-        let numbers = [depth, self.plane(FIRST, r), self.plane(SECOND, r)].concat();
+        let numbers = [depth, self.plane(FIRST, r, word), self.plane(SECOND, r, word)].concat();
         let answers = r.words(4);
         let quotients = r.words(2);
-        self.call('P', answers[0], &numbers, &[]);
-        self.call('M', answers[1], &numbers, &[]);
-        self.quotient('D', answers[2], &numbers, quotients[0]);
-        self.quotient('I', answers[3], &numbers, quotients[1]);
+        self.call(word.difference, answers[0], &numbers, &[]);
+        self.call(word.total, answers[1], &numbers, &[]);
+        self.quotient(word.delta, answers[2], &numbers, quotients[0]);
+        self.quotient(word.importance, answers[3], &numbers, quotients[1]);
     }
 
     /// A call that writes a quotient where it is not refused.
@@ -88,30 +126,30 @@ impl Paper {
         self.call(letter, answer, numbers, &[(QUOTIENT, &after)]);
     }
 
-    fn intra(&mut self, r: &mut Reader) {
+    fn intra(&mut self, r: &mut Reader, word: &Word) {
         let depth = r.words(1);
-        let (first, work, room) = (self.plane(FIRST, r), self.plane(SECOND, r), r.halves());
+        let (first, work, room) = (self.plane(FIRST, r, word), self.plane(SECOND, r, word), r.halves());
         self.put(COSTS, &room);
         let numbers = [depth, first, work, vec![room.len() as u64]].concat();
-        let (answer, after, costs) = (r.word(), r.bytes(), r.halves());
-        self.call('C', answer, &numbers, &[(COSTS, &costs), (SECOND, &after)]);
+        let (answer, after, costs) = (r.word(), (word.samples)(r), r.halves());
+        self.call(word.costs, answer, &numbers, &[(COSTS, &costs), (SECOND, &after)]);
     }
 
     /// The factor stands where the length of the costs does.
-    fn reduce(&mut self, r: &mut Reader) {
+    fn reduce(&mut self, r: &mut Reader, word: &Word) {
         let (depth, factor) = (r.words(1), r.words(1));
-        let numbers = [depth, self.plane(FIRST, r), self.plane(SECOND, r), factor].concat();
-        let (answer, after) = (r.word(), r.bytes());
-        self.call('V', answer, &numbers, &[(SECOND, &after)]);
+        let numbers = [depth, self.plane(FIRST, r, word), self.plane(SECOND, r, word), factor].concat();
+        let (answer, after) = (r.word(), (word.samples)(r));
+        self.call(word.reduction, answer, &numbers, &[(SECOND, &after)]);
     }
 
     /// Lengths stand where those of planes do.
-    fn satd(&mut self, r: &mut Reader) {
-        let (first, second) = (r.bytes(), r.bytes());
+    fn satd(&mut self, r: &mut Reader, word: &Word) {
+        let (first, second) = ((word.samples)(r), (word.samples)(r));
         self.put(FIRST, &first);
         self.put(SECOND, &second);
         let numbers = [0, first.len() as u64, 8, 8, 8, 0, second.len() as u64];
-        self.call('B', r.word(), &numbers, &[]);
+        self.call(word.satd, r.word(), &numbers, &[]);
     }
 
     fn threshold(&mut self, r: &mut Reader) {

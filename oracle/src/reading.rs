@@ -1,10 +1,13 @@
-//! Document 01's detector as a program, in its own order and words, with document 02's release number. It says which
-//! refusal is due, and what the crate's answer should be; where the two differ the oracle says so.
+//! Document 01's detector as a program, in its own order and words, with document 02's release number and depths. It says
+//! which refusal is due, and what the crate's answer should be; where the two differ the oracle says so.
 pub use crate::sizes::{COUNT, FIRST, LAST, LENGTH, NUMBERS, OFFSET, RELEASE, ROOM, SCORE, SCORES, SET_LIMIT};
 
 pub const NONE: u64 = 0;
 pub const FAST: u64 = 1;
 pub const STANDARD: u64 = 2;
+
+/// 5: "a depth other than 8, 10, 12".
+const DEPTHS: [u64; 3] = [8, 10, 12];
 
 /// Inter cost, importance, backward, forward, threshold.
 pub type Score = [f64; SCORE];
@@ -50,6 +53,10 @@ impl State {
             place.copy_from_slice(entry);
         }
     }
+    /// A threshold of 8 bits at the state's depth: times the depth, over 8.
+    fn at_depth(&self, threshold: f64) -> f64 {
+        threshold * self.numbers[2] as f64 / 8.0
+    }
     pub fn scaled(&self) -> bool {
         self.mode() == FAST && self.numbers[0].min(self.numbers[1]) > 240
     }
@@ -59,7 +66,7 @@ pub fn fresh_fault(n: &[u64; 7]) -> u32 {
     if settings_fault_6(n[0], n[1], n[4]) {
         return 6;
     }
-    if n[2] != 8 { 5 } else { 0 }
+    if !DEPTHS.contains(&n[2]) { 5 } else { 0 }
 }
 
 fn settings_fault_6(width: u64, height: u64, mode: u64) -> bool {
@@ -94,7 +101,7 @@ fn bad_other(x: f64) -> bool {
 /// Refusal 11.
 fn state_fault(s: &State) -> bool {
     let n = &s.numbers;
-    if settings_fault_6(n[0], n[1], n[4]) || n[2] != 8 {
+    if settings_fault_6(n[0], n[1], n[4]) || !DEPTHS.contains(&n[2]) {
         return true;
     }
     let most = if s.ahead() == 5 { 10 } else { ROOM as u64 - 1 };
@@ -204,7 +211,7 @@ fn score(s: &State, c: &Call, offset: u64, entries: &mut Vec<Score>, k: u64, rep
     let inter = c.inter[at];
     if s.mode() == FAST {
         let delta = if repeat && s.scaled() { 0.0 } else { inter };
-        entries.insert(0, [delta, delta, delta, delta, 18.0 * 8.0 / 8.0]);
+        entries.insert(0, [delta, delta, delta, delta, s.at_depth(18.0)]);
         return;
     }
     let mut backward = 0.0;
@@ -239,7 +246,7 @@ fn score(s: &State, c: &Call, offset: u64, entries: &mut Vec<Score>, k: u64, rep
 fn decide(s: &State, offset: usize, entries: &[Score]) -> bool {
     let over_forward = |e: &&Score| e[3] >= e[4];
     let over_backward = |e: &&Score| e[2] >= e[4];
-    let important = entries[offset..].iter().any(|e| e[1] >= 7.0 * 8.0 / 8.0);
+    let important = entries[offset..].iter().any(|e| e[1] >= s.at_depth(7.0));
     if !important || !over_forward(&&entries[offset]) {
         return false;
     }

@@ -15,6 +15,7 @@ use crate::reading::{Call, FAST, NONE, STANDARD, Score, State};
 use crate::sizes::{COUNT, OFFSET, ROOM, SET_LIMIT};
 use crate::values::Taste;
 
+/// Its frames carry marks in place of samples, at any depth: the sample's word bears on nothing here.
 pub type Detector = SceneChangeDetector<u8>;
 
 fn speed(mode: u64) -> SceneDetectionSpeed {
@@ -67,25 +68,25 @@ pub struct Film {
 
 impl Film {
     pub fn new(r: &mut Random, s: &State, first: u64, calls: u64) -> Film {
-        let taste = Taste::new(r);
+        let (taste, depth) = (Taste::new(r), s.numbers[2]);
         let pixels = if possible(s) { detector(&s.numbers).door_pixels() as u64 } else { 1 };
         let real = s.mode() != FAST || !r.once_in(8);
         let frames = (0..calls + BEYOND).map(|i| {
-            let difference = taste.difference(r, pixels);
+            let difference = taste.difference(r, depth, pixels);
             let inter = match s.mode() {
                 FAST if real => difference as f64 / pixels as f64,
                 _ => taste.inter(r),
             };
-            let fed = Fed { inter, importance: taste.importance(r), threshold: taste.threshold(r) };
+            let fed = Fed { inter, importance: taste.importance(r, depth), threshold: taste.threshold(r) };
             Arc::new(Frame::of(Plane::marked(Mark { frame: first + i, difference }), fed))
         });
         let frames = frames.collect();
         Film { first, frames, real }
     }
 
-    /// A film in which every pair has the same measures; in Fast mode the delta is a whole number.
+    /// A film in which every pair has the same measures; in Fast mode the delta times the number of samples is a whole number.
     pub fn fixed(s: &State, first: u64, [inter, importance, threshold]: [f64; 3]) -> Film {
-        let difference = inter as u64 * detector(&s.numbers).door_pixels() as u64;
+        let difference = (inter * detector(&s.numbers).door_pixels() as f64) as u64;
         let fed = Fed { inter, importance, threshold };
         let frame = |i| Arc::new(Frame::of(Plane::marked(Mark { frame: first + i, difference }), fed));
         Film { first, frames: (0..BEYOND).map(frame).collect(), real: true }

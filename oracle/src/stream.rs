@@ -1,5 +1,5 @@
 //! The cases as a stream of 64-bit words, the lowest byte first. A record is its kind, the number of words that follow, and
-//! those words. Bytes and 32-bit numbers are packed into words, the rest of the last word 0.
+//! those words. Bytes, 16-bit and 32-bit numbers are packed into words, the rest of the last word 0.
 use std::io::{BufWriter, Stdout, Write, stdout};
 
 pub use crate::kind::Kind;
@@ -55,6 +55,15 @@ impl Stream {
             let mut w = [0u8; 8];
             w[..chunk.len()].copy_from_slice(chunk);
             self.words.push(u64::from_le_bytes(w));
+        }
+        self
+    }
+
+    /// Numbers of 16 bits with their number before them.
+    pub fn quarters(&mut self, list: &[u16]) -> &mut Self {
+        self.word(list.len() as u64);
+        for four in list.chunks(4) {
+            self.words.push(four.iter().rev().fold(0, |w, &x| w << 16 | u64::from(x)));
         }
         self
     }

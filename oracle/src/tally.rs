@@ -37,9 +37,9 @@ impl Tally {
         }
     }
 
-    pub fn print(&self, seed: u64) {
+    pub fn print(&self, seed: u64, of: &str) {
         eprintln!(
-            "oracle: seed {seed}: the crate answered {} detector calls, {} measures, {} films; the shims {} reductions; the \
+            "oracle: seed {seed}, {of}: the crate answered {} detector calls, {} measures, {} films; the shims {} reductions; the \
              reading alone {} calls, {} measures, {} of the log; {} cuts; crate and reading differ on {}",
             self.calls,
             self.measures,

@@ -37,26 +37,27 @@ impl Taste {
         }
     }
 
-    pub fn importance(self, r: &mut Random) -> f64 {
-        let edge = 7.0f64;
+    pub fn importance(self, r: &mut Random, depth: u64) -> f64 {
+        let edge = 7.0 * depth as f64 / 8.0;
         match r.below(5) {
             0 | 1 => r.of(&[edge, edge.next_up(), 50.0]),
             2 => r.of(&[edge.next_down(), 0.0, -0.0, 6.0, TINY]),
             3 => r.of(&[f64::NAN, f64::MAX, edge]),
-            _ => r.part() * 14.0,
+            _ => r.part() * 2.0 * edge,
         }
     }
 
     /// A difference of two planes of so many samples, which Fast mode divides by their number.
-    pub fn difference(self, r: &mut Random, pixels: u64) -> u64 {
+    pub fn difference(self, r: &mut Random, depth: u64, pixels: u64) -> u64 {
+        let times = |n: u64| n * depth * pixels / 8;
         match r.below(8) {
-            0 => 18 * pixels,
-            1 => 18 * pixels - 1,
-            2 => 18 * pixels + 1,
-            3 => 7 * pixels - r.below(2),
+            0 => times(18),
+            1 => times(18) - 1,
+            2 => times(18) + 1,
+            3 => times(7) - r.below(2),
             4 => 0,
             5 => r.of(&[u64::MAX, 1 << 53, (1 << 53) + 1, 1]),
-            _ => r.below(40 * pixels),
+            _ => r.below(times(40)),
         }
     }
 }

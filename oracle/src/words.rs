@@ -33,6 +33,13 @@ impl Reader<'_> {
         all.take(count).collect()
     }
 
+    /// Numbers of 16 bits, each as a word.
+    pub fn quarters(&mut self) -> Vec<u64> {
+        let count = self.word() as usize;
+        let all = self.words(count.div_ceil(4)).into_iter().flat_map(|w| [0, 16, 32, 48].map(|at| w >> at & 0xffff));
+        all.take(count).collect()
+    }
+
     /// Numbers of 32 bits, each as a word.
     pub fn halves(&mut self) -> Vec<u64> {
         let count = self.word() as usize;

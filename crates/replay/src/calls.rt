@@ -1,5 +1,6 @@
-// The calls that the list makes, by their letters: on numbers, on lists of entries, on the detector; the others are of planes
-// and of logs.
+// The calls that the list makes, by their letters: on numbers, on lists of entries, on the detector; the others are of planes,
+// of bytes and of 16 bits, and of logs.
+use crate::deep;
 use crate::desk;
 use crate::desk::get;
 use crate::desk::half;
@@ -118,6 +119,7 @@ pub fn replay(letter: u8, desk: &mut [u64]) -> bool {
     match letter {
         b'N' | b'F' => detect(letter, desk),
         b'P' | b'M' | b'D' | b'I' | b'B' | b'C' | b'T' | b'V' => planes::replay(letter, desk),
+        b'Q' | b'O' | b'U' | b'J' | b'Y' | b'K' | b'W' => deep::replay(letter, desk),
         b'L' | b'R' | b'A' => logs::replay(letter, desk),
         b'H' | b'G' => transform(letter, desk),
         b'S' => scale(desk),

@@ -31,6 +31,10 @@ fn of_sample(x: u8) -> u64 {
     x as u64
 }
 
+fn of_quarter(x: u16) -> u64 {
+    x as u64
+}
+
 fn of_cost(x: u32) -> u64 {
     x as u64
 }
@@ -84,6 +88,17 @@ fn sample(list: &mut [u8], i: usize, w: u64, is_given: bool) -> bool {
         return true;
     }
     of_sample(list[i]) == w
+}
+
+fn quarter(list: &mut [u16], i: usize, w: u64, is_given: bool) -> bool {
+    if list.len() <= i {
+        return false;
+    }
+    if is_given {
+        list[i] = (w % 65536) as u16;
+        return true;
+    }
+    of_quarter(list[i]) == w
 }
 
 fn cost(list: &mut [u32], i: usize, w: u64, is_given: bool) -> bool {
@@ -140,6 +155,15 @@ pub fn samples(desk: &[u64], list: &mut [u8], at: usize, is_given: bool) -> bool
     let mut is_same = true;
     for i in 0..list.len() {
         is_same = is_same & sample(list, i, desk::stands(desk, at, i, is_given), is_given);
+    }
+    is_same
+}
+
+// Samples of 16 bits.
+pub fn quarters(desk: &[u64], list: &mut [u16], at: usize, is_given: bool) -> bool {
+    let mut is_same = true;
+    for i in 0..list.len() {
+        is_same = is_same & quarter(list, i, desk::stands(desk, at, i, is_given), is_given);
     }
     is_same
 }

@@ -9,6 +9,16 @@ pub fn samples(list: &[u8], from: usize, len: usize) -> &[u8] {
     &list[from..from + len]
 }
 
+pub fn quarters(list: &[u16], from: usize, len: usize) -> &[u16] {
+    if list.len() < from {
+        return &list[..0];
+    }
+    if list.len() - from < len {
+        return &list[..0];
+    }
+    &list[from..from + len]
+}
+
 pub fn costs(list: &[u32], from: usize, len: usize) -> &[u32] {
     if list.len() < from {
         return &list[..0];
@@ -30,6 +40,16 @@ pub fn reals(list: &[f64], from: usize, len: usize) -> &[f64] {
 }
 
 pub fn work(list: &mut [u8], from: usize, len: usize) -> &mut [u8] {
+    if list.len() < from {
+        return &mut list[..0];
+    }
+    if list.len() - from < len {
+        return &mut list[..0];
+    }
+    &mut list[from..from + len]
+}
+
+pub fn deep_work(list: &mut [u16], from: usize, len: usize) -> &mut [u16] {
     if list.len() < from {
         return &mut list[..0];
     }

@@ -10,15 +10,15 @@ const SAMPLES: usize = 8704;
 const COSTS: usize = 64;
 
 // A plane's length and shape.
-struct Shape {
-    n: usize,
-    w: usize,
-    h: usize,
-    s: usize,
-    o: usize,
+pub struct Shape {
+    pub n: usize,
+    pub w: usize,
+    pub h: usize,
+    pub s: usize,
+    pub o: usize,
 }
 
-fn shape_at(desk: &[u64], at: usize) -> Shape {
+pub fn shape_at(desk: &[u64], at: usize) -> Shape {
     Shape {
         n: len(desk, at),
         w: len_at(desk, at, 1),

@@ -69,7 +69,7 @@ impl<T: Pixel> SceneChangeDetector<T> {
     /// A plane reduced as the detector would reduce it.
     pub fn door_reduced(&self, plane: &Plane<T>) -> Plane<T> {
         match &self.scale_func {
-            Some(f) => (f.downscale)(plane, NonZeroU8::new(8).unwrap()),
+            Some(f) => (f.downscale)(plane, NonZeroU8::new(self.bit_depth as u8).unwrap()),
             None => plane.clone(),
         }
     }
