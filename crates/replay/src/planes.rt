@@ -102,8 +102,7 @@ fn call(
         b'D' | b'I' => ratio(letter, desk, first, second, x),
         b'B' => satd(desk, first, second),
         b'C' => intra(desk, first, second, costs),
-        b'V' => reduction(desk, first, second),
-        _ => threshold(desk, costs, x),
+        _ => reduction(desk, first, second),
     }
 }
 
@@ -129,7 +128,19 @@ fn replay_in(
     is_right(desk, second, costs) & memory::is_result(desk, answer, x)
 }
 
+// A threshold is given costs alone: the planes' places may hold samples of either word.
+fn replay_threshold(desk: &[u64], costs: &mut [u32]) -> bool {
+    memory::costs(desk, costs, memory::COSTS, true);
+    let mut x = memory::quotient(desk);
+    let answer = threshold(desk, costs, &mut x);
+    memory::costs(desk, costs, memory::COSTS, false) & memory::is_result(desk, answer, x)
+}
+
 pub fn replay(letter: u8, desk: &[u64]) -> bool {
+    if letter == b'T' {
+        let mut list = [0u32; COSTS];
+        return replay_threshold(desk, &mut list[..]);
+    }
     let mut p = [0u8; SAMPLES];
     let mut q = [0u8; SAMPLES];
     let mut costs = [0u32; COSTS];
