@@ -59,12 +59,6 @@ factor-small =
 pub samples-few : (f : ℕ) → f ≤ 32 → f * f ≤ 1024
 samples-few f h = mul-le-mul h h
 
--- one that is none of the first five is the sixth
-pub factor-last : (f : ℕ) → badFactor f ≡ false → (f ≡ 1 → ⊥) → (f ≡ 2 → ⊥) → (f ≡ 4 → ⊥) → (f ≡ 8 → ⊥) → (f ≡ 16 → ⊥) → f ≡ 32
-factor-last =
-    six (λ (f : ℕ). (f ≡ 1 → ⊥) → (f ≡ 2 → ⊥) → (f ≡ 4 → ⊥) → (f ≡ 8 → ⊥) → (f ≡ 16 → ⊥) → f ≡ 32) (λ a b c d e. absurd (a refl)) (λ a b c d e. absurd (b refl))
-    (λ a b c d e. absurd (c refl)) (λ a b c d e. absurd (d refl)) (λ a b c d e. absurd (e refl)) (λ a b c d e. refl)
-
 -- one above 1 is twice its half, of which a chunk's sums are whole squares
 pub factor-half : (f : ℕ) → badFactor f ≡ false → (f ≡ 1 → ⊥) → (2 * (f / 2) ≡ f) × Half (f / 2)
 factor-half =

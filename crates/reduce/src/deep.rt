@@ -64,7 +64,7 @@ fn put_squares(out: &mut [u16], s: &[u16], start: usize, stride: usize, factor: 
     }
 }
 
-// A row of squares: with a factor of 1 the samples themselves. The other factors stand here as such, since the compiler then
+// A row of squares: with a factor of 1 the samples themselves. The small factors stand here as such, since the compiler then
 // knows what it divides by.
 fn reduce_row(out: &mut [u16], s: &[u16], start: usize, stride: usize, factor: usize, count: usize)
     requires { ⌜ badFactor factor ≡ false ⌝ }
@@ -80,8 +80,7 @@ fn reduce_row(out: &mut [u16], s: &[u16], start: usize, stride: usize, factor: u
         2 => put_squares(out, s, start, stride, 2, count),
         4 => put_squares(out, s, start, stride, 4, count),
         8 => put_squares(out, s, start, stride, 8, count),
-        16 => put_squares(out, s, start, stride, 16, count),
-        _ => put_squares(out, s, start, stride, 32, count),
+        _ => put_squares(out, s, start, stride, factor, count),
     }
 }
 

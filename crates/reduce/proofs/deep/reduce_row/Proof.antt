@@ -1,6 +1,6 @@
 -- `reduce::deep::reduce_row` meets its contract: a factor of 1 copies, and with each other one squares are taken one by one. Assumes nothing.
 use mathlib.Core.List.{List}
-use mathlib.Core.Path.{_≡_, sym, ap, subst, _∙_}
+use mathlib.Core.Path.{_≡_, refl, sym, ap, subst, _∙_}
 use Prim.Native.Nat.{ℕ, _+_, _*_, _≤_, _<_}
 use native.Mathlib.Omega.{arith}
 use borrow.Author.Needs.{needs}
@@ -8,7 +8,7 @@ use lib.Dec.{ltb}
 use lib.ListN.{length, length-take, length-drop}
 use Rattle.sums.specs.Written.{written}
 use Rattle.reduce.specs.Needs.{RowsIn, meanFrom}
-use Rattle.reduce.proofs.ReduceLaws.{factor-small, factor-last}
+use Rattle.reduce.proofs.ReduceLaws.{factor-small}
 use Rattle.reduce.proofs.RowLaws.{copy-in, copy-is}
 use Rattle.reduce.proofs.deep.reduce_row.Statement.{statement}
 use Rattle.reduce.proofs.deep.reduce_row.Tie as tie
@@ -47,22 +47,14 @@ module _ (d : tie.Else1) (g : ℕ) (e : entry d .args .factor ≡ g) where
       → new ≡ written (λ (k : ℕ). ltb k (s .count)) (meanFrom (s .factor) (s .s .now) (s .start) (s .stride)) (s .out .now)
   gives new m = let s = entry d .args in m ∙ ap (λ (f : ℕ). written (λ (k : ℕ). ltb k (s .count)) (meanFrom f (s .s .now) (s .start) (s .stride)) (s .out .now)) (sym e)
 
--- in the last arm it is 32
-last : (c : tie.At-match-rest) → entry (c .before) .args .factor ≡ 32
-last c =
-    let none = c .match .rest in
-    factor-last _ (entry (c .before) .pre .0) (c .before .if1 .left) (none .0 .0 .0 .1) (none .0 .0 .1) (none .0 .1) (none .1)
-
 pub reduce-row-spec : {M : Type 1} → statement M
 reduce-row-spec =
     tie.close
     (tie.spec (λ c. omega (arith, inside (c .before))) (λ c. omega (arith, inside (c .before))) (λ c. omega (arith, inside (c .before))) (λ c. search needs)
     copy-row-requires (λ c. search needs) returns
     (λ c κs. asks (c .before .before) 2 (c .before .match .keys1)) (λ c κs. asks (c .before .before) 4 (c .before .match .keys2))
-    (λ c κs. asks (c .before .before) 8 (c .before .match .keys3)) (λ c κs. asks (c .before .before) 16 (c .before .match .keys4))
-    (λ c κs. asks (c .before .before) 32 (last (c .before)))
+    (λ c κs. asks (c .before .before) 8 (c .before .match .keys3)) (λ c κs. asks (c .before .before) (entry (c .before .before) .args .factor) refl)
     (λ c. search needs) (λ c. let r = c .before .before in gives (r .before .before .before) 2 (r .before .before .match .keys1) _ (r .put-squares .ensures))
     (λ c. search needs) (λ c. let r = c .before .before in gives (r .before .before .before) 4 (r .before .before .match .keys2) _ (r .put-squares2 .ensures))
     (λ c. search needs) (λ c. let r = c .before .before in gives (r .before .before .before) 8 (r .before .before .match .keys3) _ (r .put-squares3 .ensures))
-    (λ c. search needs) (λ c. let r = c .before .before in gives (r .before .before .before) 16 (r .before .before .match .keys4) _ (r .put-squares4 .ensures))
-    (λ c. search needs) (λ c. let r = c .before .before in gives (r .before .before .before) 32 (last (r .before .before)) _ (r .put-squares5 .ensures)))
+    (λ c. search needs) (λ c. (c .before .before) .put-squares4 .ensures))
