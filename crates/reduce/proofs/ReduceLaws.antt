@@ -59,6 +59,15 @@ factor-small =
 pub samples-few : (f : ℕ) → f ≤ 32 → f * f ≤ 1024
 samples-few f h = mul-le-mul h h
 
+-- one above 1 and below 16, by its order
+pub factor-arms : (f : ℕ) → badFactor f ≡ false → (f ≡ 1 → ⊥) → (f < 4 → f ≡ 2) × (4 ≤ f → f < 8 → f ≡ 4) × (8 ≤ f → f < 16 → f ≡ 8)
+factor-arms =
+    six (λ (f : ℕ). (f ≡ 1 → ⊥) → (f < 4 → f ≡ 2) × (4 ≤ f → f < 8 → f ≡ 4) × (8 ≤ f → f < 16 → f ≡ 8))
+    (λ h. absurd (h refl)) (λ _. (λ _. refl, λ a _. absurd (omega arith), λ a _. absurd (omega arith)))
+    (λ _. (λ a. absurd (omega arith), λ _ _. refl, λ a _. absurd (omega arith))) (λ _. (λ a. absurd (omega arith), λ _ a. absurd (omega arith), λ _ _. refl))
+    (λ _. (λ a. absurd (omega arith), λ _ a. absurd (omega arith), λ _ a. absurd (omega arith)))
+    (λ _. (λ a. absurd (omega arith), λ _ a. absurd (omega arith), λ _ a. absurd (omega arith)))
+
 -- one above 1 is twice its half, of which a chunk's sums are whole squares
 pub factor-half : (f : ℕ) → badFactor f ≡ false → (f ≡ 1 → ⊥) → (2 * (f / 2) ≡ f) × Half (f / 2)
 factor-half =

@@ -8,7 +8,7 @@ use lib.Dec.{ltb}
 use lib.ListN.{length, length-take, length-drop}
 use Rattle.sums.specs.Written.{written}
 use Rattle.reduce.specs.Needs.{RowsIn, meanFrom}
-use Rattle.reduce.proofs.ReduceLaws.{factor-small}
+use Rattle.reduce.proofs.ReduceLaws.{factor-small, factor-arms}
 use Rattle.reduce.proofs.RowLaws.{copy-in, copy-is}
 use Rattle.reduce.proofs.deep.reduce_row.Statement.{statement}
 use Rattle.reduce.proofs.deep.reduce_row.Tie as tie
@@ -47,14 +47,28 @@ module _ (d : tie.Else1) (g : ℕ) (e : entry d .args .factor ≡ g) where
       → new ≡ written (λ (k : ℕ). ltb k (s .count)) (meanFrom (s .factor) (s .s .now) (s .start) (s .stride)) (s .out .now)
   gives new m = let s = entry d .args in m ∙ ap (λ (f : ℕ). written (λ (k : ℕ). ltb k (s .count)) (meanFrom f (s .s .now) (s .start) (s .stride)) (s .out .now)) (sym e)
 
+-- which arm is taken says which factor it is
+arms : (d : tie.Else1) → let f = entry d .args .factor in (f < 4 → f ≡ 2) × (4 ≤ f → f < 8 → f ≡ 4) × (8 ≤ f → f < 16 → f ≡ 8)
+arms d = factor-arms _ (entry d .pre .0) (d .if1 .left)
+
+two : (c : tie.Then2) → entry (c .before) .args .factor ≡ 2
+two c = arms (c .before) .0 (c .if2 .taken)
+
+four : (c : tie.Then3) → entry (c .before .before) .args .factor ≡ 4
+four c = arms (c .before .before) .1 (c .before .if2 .left) (c .if3 .taken)
+
+eight : (c : tie.Then4) → entry (c .before .before .before) .args .factor ≡ 8
+eight c = arms (c .before .before .before) .2 (c .before .if3 .left) (c .if4 .taken)
+
 pub reduce-row-spec : {M : Type 1} → statement M
 reduce-row-spec =
     tie.close
     (tie.spec (λ c. omega (arith, inside (c .before))) (λ c. omega (arith, inside (c .before))) (λ c. omega (arith, inside (c .before))) (λ c. search needs)
     copy-row-requires (λ c. search needs) returns
-    (λ c κs. asks (c .before .before) 2 (c .before .match .keys1)) (λ c κs. asks (c .before .before) 4 (c .before .match .keys2))
-    (λ c κs. asks (c .before .before) 8 (c .before .match .keys3)) (λ c κs. asks (c .before .before) (entry (c .before .before) .args .factor) refl)
-    (λ c. search needs) (λ c. let r = c .before .before in gives (r .before .before .before) 2 (r .before .before .match .keys1) _ (r .put-squares .ensures))
-    (λ c. search needs) (λ c. let r = c .before .before in gives (r .before .before .before) 4 (r .before .before .match .keys2) _ (r .put-squares2 .ensures))
-    (λ c. search needs) (λ c. let r = c .before .before in gives (r .before .before .before) 8 (r .before .before .match .keys3) _ (r .put-squares3 .ensures))
+    (λ c κs. asks (c .before .before) 2 (two (c .before))) (λ c κs. asks (c .before .before .before) 4 (four (c .before)))
+    (λ c κs. asks (c .before .before .before .before) 8 (eight (c .before)))
+    (λ c κs. let d = c .before .before .before .before in asks d (entry d .args .factor) refl)
+    (λ c. search needs) (λ c. let r = c .before .before in let t = r .before .before in gives (t .before) 2 (two t) _ (r .put-squares .ensures))
+    (λ c. search needs) (λ c. let r = c .before .before in let t = r .before .before in gives (t .before .before) 4 (four t) _ (r .put-squares2 .ensures))
+    (λ c. search needs) (λ c. let r = c .before .before in let t = r .before .before in gives (t .before .before .before) 8 (eight t) _ (r .put-squares3 .ensures))
     (λ c. search needs) (λ c. (c .before .before) .put-squares4 .ensures))
