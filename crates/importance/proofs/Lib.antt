@@ -1,4 +1,5 @@
 pub mod BlockSums
+pub mod FourRows
 pub mod RowLooks
 pub mod Unique
 pub mod DeepUnique

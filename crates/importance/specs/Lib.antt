@@ -1,1 +1,2 @@
 pub mod Importance
+pub mod Needs

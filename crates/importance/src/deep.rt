@@ -4,27 +4,33 @@ use answer::Real;
 use answer::Whole;
 use plane::BLOCK_SIDE;
 use plane::Plane;
-ghost use mathlib.Core.Bool.{_||_};
+ghost use mathlib.Core.Bool.{true, _||_};
 ghost use mathlib.Core.Path.{_≡_};
 ghost use Prim.Native.Nat.{ℕ, _+_, _*_, _≤_, _<_};
-ghost use lib.ListN.{length, getD};
+ghost use lib.ListN.{length};
 ghost use Rattle.answer.specs.Answer.{answered, wholeAnswer, realAnswer};
 ghost use Rattle.answer.specs.Refusal.{refusal};
 ghost use Rattle.plane.specs.Blocks.{blockSide, blocksDown};
-ghost use Rattle.plane.specs.Needs.{squareFrom};
-ghost use Rattle.plane.specs.Planes.{deep, sizesFault, rowsLarge, tooLarge};
+ghost use Rattle.plane.specs.Needs.{rowFrom, squareFrom};
+ghost use Rattle.plane.specs.Planes.{deep, suits, sizesFault, rowsLarge, tooLarge};
 ghost use Rattle.sums.specs.Needs.{wordMost};
 ghost use Rattle.sums.specs.Sums.{sumBelow, apart};
+ghost use Rattle.importance.specs.Needs.{SmallRows, SmallBlocks};
 ghost use Rattle.importance.specs.Importance.{mean, blocksDifference, importanceTotal, totalOf, importanceOf};
 
-// The sum of a part's first eight samples. The sums of a block are kept in 32 bits: 64 words of any value fit there.
-fn sum_row(s: &[u16]) -> u32
-    requires { ⌜ blockSide ≤ length (now s) ⌝ }
-    ensures { λ r. ⌜ r ≡ sumBelow blockSide (λ (i : ℕ). getD (now (s .entry)) i 0) ⌝ }
+// The sum of four rows of eight samples, a stride apart from a place on. Four samples are added in 16 bits, as long as none has
+// more than 12: so one vector instruction adds eight, and they are widened once.
+fn sum_rows(s: &[u16], at: usize, stride: usize) -> u32
+    requires { ⌜ ((j : ℕ) → j < 4 → at + j * stride + blockSide ≤ length (now s)) ⌝ }
+    requires { ⌜ SmallRows (now s) at stride 4 ⌝ }
+    ensures { λ r. ⌜ r ≡ sumBelow 4 (rowFrom blockSide (now (s .entry)) at stride) ⌝ }
 {
+    let second = at + stride;
+    let third = second + stride;
+    let last = third + stride;
     let mut sum: u32 = 0;
     for i in 0..BLOCK_SIDE {
-        sum += s[i] as u32;
+        sum += (s[at + i] + s[second + i] + s[third + i] + s[last + i]) as u32;
     }
     sum
 }
@@ -32,14 +38,10 @@ fn sum_row(s: &[u16]) -> u32
 // The sum of the block that starts at a place.
 fn sum_8x8_block(s: &[u16], start: usize, stride: usize) -> u32
     requires { ⌜ ((j : ℕ) → j < blockSide → start + j * stride + blockSide ≤ length (now s)) ⌝ }
+    requires { ⌜ SmallRows (now s) start stride blockSide ⌝ }
     ensures { λ r. ⌜ r ≡ squareFrom blockSide (now (s .entry)) start stride ⌝ }
 {
-    let mut sum: u32 = 0;
-    for j in 0..BLOCK_SIDE {
-        let i = start + j * stride;
-        sum += sum_row(&s[i..]);
-    }
-    sum
+    sum_rows(s, start, stride) + sum_rows(s, start + 4 * stride, stride)
 }
 
 // How far two rounded means lie apart. Each is rounded by itself.
@@ -56,6 +58,7 @@ fn means_apart(org: u32, other: u32) -> u32
 fn blocks_difference(p: Plane, a: &[u16], q: Plane, b: &[u16], y: usize) -> u64
     requires { ⌜ sizesFault p (length (now a)) q (length (now b)) ≡ 0 ⌝ }
     requires { ⌜ y < blocksDown p ⌝ }
+    requires { ⌜ SmallBlocks p (now a) y × SmallBlocks q (now b) y ⌝ }
     ensures { λ r. ⌜ r ≡ blocksDifference p (now (a .entry)) q (now (b .entry)) y ⌝ }
 {
     let step = p.stride;
@@ -82,6 +85,7 @@ fn any_large(depth: u64, p: Plane, a: &[u16], q: Plane, b: &[u16], from: usize, 
 // blocks are looked at just before they are summed; those below the last whole block come last.
 fn all_differences(depth: u64, p: Plane, a: &[u16], q: Plane, b: &[u16]) -> Whole
     requires { ⌜ sizesFault p (length (now a)) q (length (now b)) ≡ 0 ⌝ }
+    requires { ⌜ suits deep depth ≡ true ⌝ }
     ensures { λ r. ⌜ wholeAnswer r ≡ answered (refusal 16 (tooLarge depth p (now (a .entry)) || tooLarge depth q (now (b .entry)))) (importanceTotal p (now (a .entry)) q (now (b .entry))) ⌝ }
 {
     let height = p.height;

@@ -1,9 +1,10 @@
 -- `importance::deep::importance` meets its contract: a refusal is handed on, and else the total is divided by the number of blocks. Assumes nothing.
+use mathlib.Core.Bool.{true}
 use mathlib.Core.Path.{_≡_, sym, _∙_}
 use borrow.Author.Needs.{needs}
 use lib.ListN.{length}
-use Rattle.plane.specs.Planes.{deep, sizesFault}
-use Rattle.plane.proofs.SampleLaws.{by-shapes}
+use Rattle.plane.specs.Planes.{deep, suits, sizesFault}
+use Rattle.plane.proofs.SampleLaws.{by-shapes, suited}
 use Rattle.importance.proofs.BlockSums.{count-fits}
 use Rattle.importance.proofs.RowLooks.{shapes-refused, quotient-refused, quotient-given}
 use Rattle.importance.proofs.deep.importance.Statement.{statement}
@@ -13,8 +14,10 @@ returns : tie.Need-returns
 returns c = shapes-refused _ _ _ _ _ _ _ (c .before .shapes-fault .ensures) (c .if1 .taken)
 
 -- past the test the shapes are not refused
-sizes : (c : tie.Else1) → let s = c .before .before .before .before .args in sizesFault (s .p) (length (s .a .now)) (s .q) (length (s .b .now)) ≡ 0
-sizes c = by-shapes deep _ _ _ _ _ (sym (c .before .shapes-fault .ensures) ∙ c .if1 .left) .1
+sizes : (c : tie.Else1)
+    → let s = c .before .before .before .before .args in
+    (sizesFault (s .p) (length (s .a .now)) (s .q) (length (s .b .now)) ≡ 0) × (suits deep (s .depth) ≡ true)
+sizes c = let t = by-shapes deep _ _ _ _ _ (sym (c .before .shapes-fault .ensures) ∙ c .if1 .left) in (t .1, suited deep _ (t .0))
 
 returns-2 : tie.Need-returns-2
 returns-2 c =
@@ -31,4 +34,4 @@ pub importance-spec : {M : Type 1} → statement M
 importance-spec =
     tie.close
     (tie.spec (λ c κs. search needs) returns (λ c κs. sizes c) (λ c. search needs) (λ c. search needs) returns-2
-    (λ c. record { fits = count-fits _ _ _ _ (sizes (c .before .before .before .before .before .before)) }) (λ c κs. search needs) returns-3)
+    (λ c. record { fits = count-fits _ _ _ _ (sizes (c .before .before .before .before .before .before) .0) }) (λ c κs. search needs) returns-3)

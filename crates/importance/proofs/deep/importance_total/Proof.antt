@@ -2,7 +2,7 @@
 use mathlib.Core.Path.{sym, _∙_}
 use borrow.Author.Needs.{needs}
 use Rattle.plane.specs.Planes.{deep}
-use Rattle.plane.proofs.SampleLaws.{by-shapes}
+use Rattle.plane.proofs.SampleLaws.{by-shapes, suited}
 use Rattle.importance.proofs.RowLooks.{shapes-refused, shapes-passed}
 use Rattle.importance.proofs.deep.importance_total.Statement.{statement}
 use Rattle.importance.proofs.deep.importance_total.Tie as tie
@@ -11,5 +11,5 @@ pub importance-total-spec : {M : Type 1} → statement M
 importance-total-spec =
     tie.close
     (tie.spec (λ c κs. search needs) (λ c. shapes-refused _ _ _ _ _ _ _ (c .before .shapes-fault .ensures) (c .if1 .taken))
-    (λ c κs. by-shapes deep _ _ _ _ _ (sym (c .before .shapes-fault .ensures) ∙ c .if1 .left) .1)
+    (λ c κs. let t = by-shapes deep _ _ _ _ _ (sym (c .before .shapes-fault .ensures) ∙ c .if1 .left) in (t .1, suited deep _ (t .0)))
     (λ c. shapes-passed _ _ _ _ _ (sym (c .before .if1 .left) ∙ c .before .before .shapes-fault .ensures) _ _ (c .all-differences .ensures)))

@@ -1,39 +1,36 @@
--- `importance::deep::sum_8x8_block` meets its contract. After j turns the sum is that of the first j rows, each a part of the samples. Assumes nothing.
-use Prim.Native.Nat.{_^_, _-_}
+-- `importance::deep::sum_8x8_block` meets its contract: a block is four rows and four more. Assumes nothing.
+use mathlib.Core.Path.{_≡_}
+use Prim.Native.Nat.{_+_, _≤_, _^_}
 use native.Mathlib.Omega.{arith}
-use borrow.Author.Needs.{needs}
-use lib.ListN.{length-take, length-drop}
 use Rattle.plane.specs.Blocks.{blockSide}
+use Rattle.plane.specs.Needs.{squareFrom}
+use Rattle.plane.proofs.SquareLaws.{square-most}
 use Rattle.sums.specs.Needs.{wordMost}
-use Rattle.sums.proofs.SumLaws.{sum-none, sum-to}
-use Rattle.importance.proofs.BlockSums.{SquareSum, RowIn, SquareTurn, square-turn}
+use Rattle.importance.proofs.FourRows.{halves-are, upper-rows, lower-rows, lower-in}
 use Rattle.importance.proofs.deep.sum_8x8_block.Statement.{statement}
 use Rattle.importance.proofs.deep.sum_8x8_block.Tie as tie
 
-abbrev Inv-loop : tie.InvT-loop
-Inv-loop s start stride sum₀ j₀ sum j = SquareSum s start stride sum j
+lower : tie.Need-sum-rows-requires-2
+lower c κs =
+    let s = c .before .before in
+    (lower-in (s .args .s .now) (s .args .start) (s .args .stride) (s .pre .0), lower-rows (s .args .s .now) (s .args .start) (s .args .stride) (s .pre .1))
 
-abbrev μ-loop : tie.MeasureT-loop
-μ-loop s start stride sum₀ j₀ sum j = blockSide - j
+whole : (c : tie.After-sum-rows2)
+    → let s = c .before .before .before .args in
+    c .before .sum-rows .result + c .sum-rows2 .result ≡ squareFrom blockSide (s .s .now) (s .start) (s .stride)
+whole c = let s = c .before .before .before .args in halves-are (s .s .now) (s .start) (s .stride) _ _ (c .before .sum-rows .ensures) (c .sum-rows2 .ensures)
 
-inside : (c : tie.In-loop Inv-loop μ-loop) → let s = c .before .before .before .args in RowIn (s .s .now) (s .start) (s .stride) (c .before .loop .j)
-inside c = c .before .before .before .pre (c .before .loop .j) (omega arith)
-
-turn : (c : tie.After-sum-row Inv-loop μ-loop)
-    → let l = c .before .before .before in
-    let s = l .before .before .args in
-    SquareTurn (2 ^ 32) (s .s .now) (s .start) (s .stride) (l .loop .sum) (c .sum-row .result) (l .loop .j)
-turn c =
-    let l = c .before .before .before in
-    let s = l .before .before .args in
-    square-turn wordMost (2 ^ 32) (omega arith) (s .s .now) (λ i. omega (arith, l .before .shared-slice-known .given i)) (s .start) (s .stride)
-    (l .loop .sum) (c .sum-row .result) (l .loop .j) (l .loop .inv) (omega arith) (inside (c .before .before)) (c .sum-row .ensures)
+-- any 64 words fit a u32
+add-result : tie.Need-add-result
+add-result c =
+    let k = c .before .before in
+    let s = k .before .args in
+    omega (arith, whole c, square-most wordMost blockSide (s .s .now) (λ i. omega (arith, k .shared-slice-known .given i)) (s .start) (s .stride))
 
 pub sum-8x8-block-spec : {M : Type 1} → statement M
 sum-8x8-block-spec =
     tie.close
-    (tie.spec Inv-loop μ-loop (λ c. (search needs, sum-none _)) (λ c. omega (arith, inside c)) (λ c. omega (arith, inside c))
-    (λ c. omega (arith, inside c)) (λ c. omega (arith, inside c)) (λ c. omega (arith, inside c)) (λ c. search needs)
-    (λ c κs. simp (length-take, length-drop) (omega (arith, inside (c .before))))
-    (λ c. record { fits = turn c .1 }) (λ c. search needs) (λ c. search needs) (λ c. turn c .0)
-    (λ c. sum-to _ _ _ _ (c .before .loop .inv .1) (omega arith)))
+    (tie.spec
+    (λ c κs. let s = c .before in (λ j h. s .pre .0 j (omega arith), upper-rows (s .args .s .now) (s .args .start) (s .args .stride) (s .pre .1)))
+    (λ c. omega (arith, c .before .before .pre .0 4 (omega arith), c .before .before .good .0 .1))
+    (λ c. omega (arith, c .before .before .pre .0 4 (omega arith), c .before .before .good .0 .1)) lower add-result (λ c. whole c))
