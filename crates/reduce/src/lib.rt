@@ -277,14 +277,8 @@ fn sides_fault(fault: u32, factor: usize, p: Plane, n: usize, q: Plane, m: usize
 fn reduce_fault(depth: u64, factor: usize, p: Plane, s: &[u8], q: Plane, reduced: &[u8]) -> u32
     ensures { λ r. ⌜ r ≡ reduceFault byte depth factor p (now (s .entry)) q (now (reduced .entry)) ⌝ }
 {
-    sides_fault(
-        plane::byte_fault(depth),
-        factor,
-        p,
-        s.len(),
-        q,
-        reduced.len(),
-    )
+    let fault = plane::byte_fault(depth);
+    sides_fault(fault, factor, p, s.len(), q, reduced.len())
 }
 
 // A plane reduced by a factor into a lent plane of the reduced sides: 0, or the refusal. Each visible sample of the lent
