@@ -1,5 +1,5 @@
-// Importance of planes with samples of 16 bits. Each function is the one of its name beside it, over the other word; what is new is the
-// look at the samples, one row of blocks at a time, so that each plane is gone through once.
+// Importance of planes with samples of 16 bits. What is new beside the functions for bytes is the look at the samples, one row of
+// blocks at a time, just before it is summed: so the sum finds the samples in the cache, and knows that they are small.
 use answer::Real;
 use answer::Whole;
 use plane::BLOCK_SIDE;

@@ -1,4 +1,5 @@
-// Intra costs of samples in words of 16 bits. Each function is the one of its name beside it, over the other word.
+// Intra costs of samples in words of 16 bits. The functions are those beside them over the other word, but for the flat sample,
+// which follows the depth.
 use answer::Whole;
 use plane::BLOCK_SIDE;
 use plane::Plane;

@@ -19,8 +19,6 @@ use Rattle.plane.proofs.deep.sample_fault.Kinds as sample-fault-kinds
 use Rattle.plane.proofs.deep.sample_fault.Reads as sample-fault-reads
 use Rattle.plane.proofs.deep.shapes_fault.Kinds as shapes-fault-kinds
 use Rattle.plane.proofs.deep.shapes_fault.Reads as shapes-fault-reads
-use Rattle.plane.proofs.deep.pair_fault.Kinds as pair-fault-kinds
-use Rattle.plane.proofs.deep.pair_fault.Reads as pair-fault-reads
 
 pub is-deep-unique : OneOutcome 0 is-deep-kinds.ps is-deep-kinds.r Bool (λ κs r e. r) is-deep-reads.Post
 is-deep-unique κs a r r′ e e′ p q = p ∙ sym q
@@ -42,6 +40,3 @@ sample-fault-unique κs a r r′ e e′ p q = p ∙ sym q
 
 pub shapes-fault-unique : OneOutcome 0 shapes-fault-kinds.ps shapes-fault-kinds.r ℕ (λ κs r e. r) shapes-fault-reads.Post
 shapes-fault-unique κs a r r′ e e′ p q = p ∙ sym q
-
-pub pair-fault-unique : OneOutcome 2 pair-fault-kinds.ps pair-fault-kinds.r ℕ (λ κs r e. r) pair-fault-reads.Post
-pair-fault-unique κs a r r′ e e′ p q = p ∙ sym q

@@ -1,5 +1,5 @@
-// Planes of samples in words of 16 bits. Each function is the one of its name beside it, over the other word; what is new is the
-// look at the samples, which a byte does not need.
+// Planes of samples in words of 16 bits. What is new beside the functions for bytes is the look at the samples, which a byte does not
+// need.
 use crate::Plane;
 ghost use mathlib.Core.Bool.{true};
 ghost use mathlib.Core.Path.{_≡_};
@@ -7,7 +7,7 @@ ghost use Prim.Native.Nat.{ℕ, _^_};
 ghost use lib.Dec.{leb};
 ghost use lib.ListN.{length, getD};
 ghost use Rattle.sums.specs.Any.{anyBelow};
-ghost use Rattle.plane.specs.Planes.{rowOf, planeFault, deep, suits, wordFault, tooLarge, rowsLarge, sampleFault, shapesFault, pairFault};
+ghost use Rattle.plane.specs.Planes.{rowOf, planeFault, deep, suits, wordFault, tooLarge, rowsLarge, sampleFault, shapesFault};
 
 // The depths that samples of 16 bits may have.
 const TEN: u64 = 10;
@@ -105,18 +105,4 @@ pub fn shapes_fault(depth: u64, p: Plane, n: usize, q: Plane, m: usize) -> u32
         return fault;
     }
     crate::sizes_fault(p, n, q, m)
-}
-
-// The refusal of a measure of two planes over their lent samples, or 0: of their shapes, and then of their samples.
-pub fn pair_fault(depth: u64, p: Plane, a: &[u16], q: Plane, b: &[u16]) -> u32
-    ensures { λ r. ⌜ r ≡ pairFault deep depth p (now (a .entry)) q (now (b .entry)) ⌝ }
-{
-    let fault = shapes_fault(depth, p, a.len(), q, b.len());
-    if fault != 0 {
-        return fault;
-    }
-    if too_large(depth, p, a) {
-        return 16;
-    }
-    if too_large(depth, q, b) { 16 } else { 0 }
 }

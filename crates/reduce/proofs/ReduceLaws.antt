@@ -24,8 +24,8 @@ use Rattle.sums.proofs.MeanLaws.{mean-most}
 use Rattle.sums.proofs.SumLaws.{NextSum, sum-ext, sum-most, sum-more, sum-none, sum-swap, sum-pairs}
 use Rattle.sums.proofs.TableLaws.{table-at}
 use Rattle.sums.proofs.WrittenLaws.{written-value}
-use Rattle.reduce.specs.Reduce.{badFactor, notReduced, sidesFault, reduceFault}
-use Rattle.reduce.specs.Needs.{sumCount, pairAt, pairFrom, pairsFrom, groupOf, meanFrom, Half, sidesBy}
+use Rattle.reduce.specs.Reduce.{badFactor, notReduced, sidesFault, reduceFault, sidesBy}
+use Rattle.reduce.specs.Needs.{sumCount, pairAt, pairFrom, pairsFrom, groupOf, meanFrom, Half}
 
 -- ---- factors
 

@@ -3,13 +3,9 @@ use Prim.Native.Nat.{ℕ, _+_, _*_, _/_, _≤_, _<_}
 use mathlib.Core.Path.{_≡_}
 use mathlib.Core.List.{List}
 use lib.ListN.{getD}
-use Rattle.answer.specs.Refusal.{refusal, _orElse_}
 use Rattle.plane.specs.Needs.{squareFrom}
-use Rattle.plane.specs.Planes.{planeFault}
-use Rattle.plane.specs.declared.Plane.{Plane}
 use Rattle.sums.specs.Means.{meanOf}
 use Rattle.sums.specs.Sums.{sumBelow}
-use Rattle.reduce.specs.Reduce.{badFactor, tooSmall, notReduced}
 
 -- how many sums a chunk has, each of two columns side by side; how many are taken at once, and in how many turns
 abbrev pub sumCount : ℕ
@@ -49,13 +45,3 @@ pub record Half (h : ℕ) : Type 0 where
   pub some : 0 < h
   pub most : h ≤ 16
   pub whole : sumCount / h * h ≡ sumCount
-
--- the refusal of a reduction by its sides, where that of the depth is given: of either word
-abbrev pub sidesBy : ℕ → ℕ → Plane → ℕ → Plane → ℕ → ℕ
-sidesBy fault f p n q m =
-    refusal 6 (badFactor f)
-    orElse fault
-    orElse refusal 1 (tooSmall f p)
-    orElse planeFault p n
-    orElse planeFault q m
-    orElse refusal 3 (notReduced f p q)

@@ -1,5 +1,5 @@
 -- A plane reduced by a factor. Document 01 leaves this out: "planes arrive already reduced". What is done, and its refusals, are decided in
--- docs/DECISIONS.md, with document 01's numbers in document 01's order.
+-- docs/DECISIONS.md, with document 01's numbers in document 01's order, and document 02's 16 last.
 use Prim.Native.Nat.{ℕ, _-_, _*_, _/_, _%_}
 use mathlib.Core.Bool.{Bool, not, _||_}
 use mathlib.Core.List.{List}
@@ -46,15 +46,18 @@ tooSmall f p = ltb (p .width) f || ltb (p .height) f
 unfoldable pub notReduced : ℕ → Plane → Plane → Bool
 notReduced f p q = not (eqb (q .width) (p .width / f)) || not (eqb (q .height) (p .height / f))
 
--- 6, 5, the plane's 1 and 2, the lent plane's 1 and 2, and 3
-unfoldable pub sidesFault : Word → ℕ → ℕ → Plane → ℕ → Plane → ℕ → ℕ
-sidesFault word depth f p n q m =
+-- 6, 5, the plane's 1 and 2, the lent plane's 1 and 2, and 3; 5 is given, since it alone knows the word
+abbrev pub sidesBy : ℕ → ℕ → Plane → ℕ → Plane → ℕ → ℕ
+sidesBy depthFault f p n q m =
     refusal 6 (badFactor f)
-    orElse wordFault word depth
+    orElse depthFault
     orElse refusal 1 (tooSmall f p)
     orElse planeFault p n
     orElse planeFault q m
     orElse refusal 3 (notReduced f p q)
+
+unfoldable pub sidesFault : Word → ℕ → ℕ → Plane → ℕ → Plane → ℕ → ℕ
+sidesFault word depth f p n q m = sidesBy (wordFault word depth) f p n q m
 
 -- and 16, of the plane that is reduced
 unfoldable pub reduceFault : Word → ℕ → ℕ → Plane → List ℕ → Plane → List ℕ → ℕ

@@ -1,5 +1,5 @@
-// The reduction of planes of samples in words of 16 bits. Each function is the one of its name beside it, over the other word.
-// Squares are taken one by one: the chunks beside rest on sums of bytes that 16 bits hold.
+// The reduction of planes of samples in words of 16 bits. Squares are taken one by one: the chunks of the functions for bytes rest on
+// sums that 16 bits hold.
 use plane::Plane;
 ghost use mathlib.Core.Bool.{false};
 ghost use mathlib.Core.Path.{_≡_};

@@ -16,8 +16,8 @@ ghost use Rattle.sums.specs.Needs.{byteMost};
 ghost use Rattle.sums.specs.Sums.{sumBelow};
 ghost use Rattle.sums.specs.Table.{table};
 ghost use Rattle.sums.specs.Written.{written};
-ghost use Rattle.reduce.specs.Reduce.{badFactor, notReduced, reduceFault, reducedAfter, reducedOf};
-ghost use Rattle.reduce.specs.Needs.{sumCount, laneCount, RowsIn, pairAt, pairsFrom, groupOf, meanFrom, Half, sidesBy};
+ghost use Rattle.reduce.specs.Reduce.{badFactor, notReduced, reduceFault, reducedAfter, reducedOf, sidesBy};
+ghost use Rattle.reduce.specs.Needs.{sumCount, laneCount, RowsIn, pairAt, pairsFrom, groupOf, meanFrom, Half};
 
 pub mod deep;
 

@@ -6,8 +6,7 @@ use borrow.Author.Needs.{needs}
 use Rattle.answer.specs.Refusal.{refusal, _orElse_}
 use Rattle.answer.proofs.Laws.{or-given, or-later, test-first, test-later, test-given, test-passed}
 use Rattle.plane.specs.Planes.{planeFault}
-use Rattle.reduce.specs.Reduce.{badFactor, tooSmall, notReduced}
-use Rattle.reduce.specs.Needs.{sidesBy}
+use Rattle.reduce.specs.Reduce.{badFactor, tooSmall, notReduced, sidesBy}
 use Rattle.reduce.proofs.ReduceLaws.{factor-small}
 use Rattle.reduce.proofs.sides_fault.Statement.{statement}
 use Rattle.reduce.proofs.sides_fault.Tie as tie
