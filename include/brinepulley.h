@@ -64,8 +64,8 @@ int64_t brine_scale_factor(size_t width, size_t height, uint32_t mode);
 /* Reduces a plane by `factor`, one of the six above, into a lent plane, `reduced` with the numbers that end in 2, which must
  * have the reduced sides: width / factor and height / factor, rounded down. There each sample becomes the mean of its square
  * of factor * factor samples, rounded to the nearest, a half up; the square of sample (x, y) begins with the plane's sample
- * (x * factor, y * factor). Every other lent sample stays. Samples right of and below the last whole square bear on nothing.
- * With a factor of 1 this is a copy. Returns 0.
+ * (x * factor, y * factor). Every other lent sample stays. Samples right of and below the last whole square bear on nothing
+ * (of brine_reduce16: but on 16). With a factor of 1 this is a copy. Returns 0.
  * Refusals: 6, where the factor is none of the six; 5; 1 of the plane, also where a side is below the factor, and 2 of it; 1
  * and 2 of the lent plane; 3, where its sides are not the reduced ones. Then the lent plane is as it was. */
 int64_t brine_reduce(uint32_t depth, size_t factor,
@@ -129,9 +129,9 @@ int64_t brine_hadamard8x8(int32_t *list, size_t len);
  * Refusals: 2, where a length is not 64. */
 int64_t brine_satd8x8(const uint8_t *first, size_t first_len, const uint8_t *second, size_t second_len);
 
-/* The same of deeper samples: each of these does what the function of its name without 16 does, at the depths 10 and 12 alone. Its
- * last refusal is 16. Every visible sample counts for it, in a whole block or square or not, but of the planes that are measured
- * or reduced alone: one that is written is not looked at. */
+/* The same of deeper samples: each of these does what the function of its name without 16 does, at the depths 10 and 12 alone. But for
+ * the SATD its last refusal is 16. Every visible sample counts for it, in a whole block or square or not, but of the planes that are
+ * measured or reduced alone: one that is written is not looked at. */
 
 /* Refusals: 6; 5; 1 and 2 of the plane, 1 and 2 of the lent one; 3; 16. Then the lent plane is as it was. */
 int64_t brine_reduce16(uint32_t depth, size_t factor,

@@ -105,6 +105,14 @@ if command -v ffmpeg > /dev/null 2>&1; then
         done
     done
 
+    # Deeper films, which ffmpeg writes where it is told -strict -1.
+    for format in yuv420p10le yuv422p12le yuv444p10le gray12le; do
+        ffmpeg -v error -nostdin -y -f lavfi -i "testsrc=s=64x48:r=25:d=0.4" -f lavfi -i "smptebars=s=64x48:r=25:d=0.6" \
+            -filter_complex "[0][1]concat=n=2,format=$format" -strict -1 -f yuv4mpegpipe "$encoded" 2> "$room/log" &&
+            command_run decide "$encoded" --csv && [ "$(cuts)" = "0 10" ]
+        verdict "ffmpeg's film of $format" $?
+    done
+
     # A camera's pictures have the full range. A change of 20 at frame 12 is a cut; as docs/COMMAND.md says, in the range of most films it
     # is 17 and none.
     mkdir "$room/camera"

@@ -190,13 +190,28 @@ static void values(void)
     }
 }
 
+/* Longer rows than the library takes at once, which is 256 samples. */
+static void long_rows(void)
+{
+    static const size_t widths[] = {255, 256, 257, 511, 512, 513, 600, 1025};
+    for (size_t i = 0; i < sizeof widths / sizeof widths[0]; i++) {
+        const size_t width = widths[i], stride = width + 3;
+        good(12);
+        const struct plane a = {first, 1 + 2 * stride + width, width, 3, stride, 1};
+        const struct plane b = {second, 3 * width, width, 3, width, 0};
+        agrees(12, a, b);
+        agrees(12, b, a);
+    }
+}
+
 /* What lies outside the visible part is not looked at, whatever it holds, and no sample is written. */
 static void padding(void)
 {
     for (uint32_t depth = 10; depth <= 12; depth += 2) {
         const struct call c = good(depth);
         const int64_t difference = slow_difference(c.a, c.b), total = slow_importance(c.a, c.b);
-        static uint16_t kept[4096];
+        static uint16_t kept[4096], kept2[4096];
+        double value = 0;
         for (size_t i = 0; i < 4096; i++) {
             if (i < 5 || i >= FIRST || (i - 5) % 23 >= WIDTH)
                 first[i] = UINT16_MAX;
@@ -204,9 +219,14 @@ static void padding(void)
                 second[i] = (uint16_t)(1u << depth);
         }
         memcpy(kept, first, sizeof kept);
+        memcpy(kept2, second, sizeof kept2);
         EXPECT_NUMBER(brine_plane_difference16(depth, LENT(c.a), LENT(c.b)), difference);
         EXPECT_NUMBER(brine_importance_total16(depth, LENT(c.a), LENT(c.b)), total);
-        EXPECT(memcmp(kept, first, sizeof kept) == 0);
+        EXPECT_NUMBER(brine_delta16(depth, LENT(c.a), LENT(c.b), &value), 0);
+        EXPECT_DOUBLE(value, (double)difference / (WIDTH * HEIGHT));
+        EXPECT_NUMBER(brine_importance16(depth, LENT(c.a), LENT(c.b), &value), 0);
+        EXPECT_DOUBLE(value, (double)total / ((WIDTH / 8) * (HEIGHT / 8)));
+        EXPECT(memcmp(kept, first, sizeof kept) == 0 && memcmp(kept2, second, sizeof kept2) == 0);
     }
 }
 
@@ -262,6 +282,7 @@ const struct test deep_tests[] = {
     {"two deep planes: refusal 16", refusal_16},
     {"two deep planes: a sample at the other depth", other_depth},
     {"two deep planes: values of many sizes", values},
+    {"two deep planes: long rows", long_rows},
     {"two deep planes: padding is not looked at", padding},
     {"two deep planes: values by hand", by_hand},
     {"two deep planes: the largest samples, more than 32 bits", large_plane},

@@ -70,8 +70,8 @@ static void values(void)
     }
 }
 
-/* Rows of about as many columns as a chunk of the library's has. */
-static void chunks(void)
+/* Longer rows. */
+static void long_rows(void)
 {
     fill_field(12);
     for (size_t i = 0; i < FACTORS; i++)
@@ -106,7 +106,7 @@ static void rounding(void)
         }
 }
 
-/* The largest sums that there are, in more squares than a chunk has. */
+/* The largest sums that there are, in rows of many squares. */
 static void flat(void)
 {
     for (size_t i = 0; i < 2 * FACTORS; i++) {
@@ -203,7 +203,7 @@ static void refusal_16(void)
 
 const struct test deep_reduce_tests[] = {
     {"deep reduction: values at every factor", values},
-    {"deep reduction: chunks of a row", chunks},
+    {"deep reduction: long rows", long_rows},
     {"deep reduction: rounding", rounding},
     {"deep reduction: the largest sums", flat},
     {"deep reduction: padding is not looked at", padding},

@@ -38,7 +38,8 @@ grep -w -F -f "$room/measures" "$room/depths" > "$room/few"
 within "$room/few"
 verdict "every measure takes $most bytes of stack at most" $?
 
-# A run takes no more than was told; SATD really takes its block of differences, and the reduction the sums of a chunk.
+# A run takes no more than was told; SATD really takes its block of differences, the reduction the sums of a chunk, and the deep intra
+# costs a block, its prediction and their differences.
 # shellcheck disable=SC2086 # words
 $COMPILER -std=c11 -D_POSIX_C_SOURCE=200809L -O2 -Wall -Wextra -Werror -I"$here/../include" $STATIC -o "$room/stack" "$here/stack.c" \
     "$ARCHIVE" > "$room/log" 2>&1
@@ -50,7 +51,7 @@ verdict "it runs every measure" $?
 awk 'NR == FNR { told[$1] = $2; next } !($1 in told) || $2 > told[$1]' "$room/depths" "$room/used" > "$room/log"
 [ -s "$room/used" ] && [ ! -s "$room/log" ]
 verdict "a run takes no more than was told" $?
-for measure in brine_satd8x8:256 brine_satd8x8_16:256 brine_reduce:128 brine_reduce16:128; do
+for measure in brine_satd8x8:256 brine_satd8x8_16:256 brine_reduce:128 brine_intra_costs16:512; do
     awk -v name="${measure%:*}" -v least="${measure#*:}" '$1 == name && $2 >= least { found = 1 } END { exit !found }' "$room/used"
     verdict "a run of ${measure%:*} takes ${measure#*:} bytes or more" $?
 done

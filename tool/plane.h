@@ -1,5 +1,5 @@
 /* Planes of luma, whole: width × height samples, row after row. A sample of 8 bits is a byte and a deeper one has 16 bits: here
-   alone it is known which of the two it is, and which of the library's functions take it. */
+   it is known which of the library's functions take it. */
 #ifndef PLANE_H
 #define PLANE_H
 
