@@ -16,7 +16,7 @@ enum {
     LEAST_REFUSED = 20000,  /* of 50,221 calls refused with each of 7, 8 and 10: one that changed something would show */
     LEAST_APART = 500,      /* of 1,179 Standard pairs that nine calls do not bring together: ten are needed */
     LEAST_OTHER_NANS = 500, /* of 1,550 Standard pairs that meet with a NaN of other bits: these bits do not matter */
-    LEAST_CUTS = 200,       /* of 799 cuts behind the meeting that the scores decided, and not the distance, */
+    LEAST_CUTS = 200,       /* of 723 cuts behind the meeting that the scores decided, and not the distance, */
     LEAST_NO_CUTS = 10000,  /* and of 22,677 such calls without a cut: the answers are not all the same */
     LEAST_ENDS = 100        /* of 595 pairs that come to the last number, 2^32 - 1: no call is left then */
 };
