@@ -56,3 +56,18 @@ module _ {A : Type 0} (test : A → Bool) where
   none-at [] i z h e = absurd (omega arith)
   none-at (x ∷ l) zero z h e = none-found x l e .0
   none-at (x ∷ l) (suc i) z h e = none-at l i z (omega arith) (none-found x l e .1)
+
+-- a count of an element and the rest, and of fewer elements
+module _ {A : Type 0} (test : A → Bool) where
+  pub count-none : countOf test [] ≡ 0
+  unfolding countOf
+  count-none = refl
+
+  pub count-first : (x : A) (l : List A) → countOf test (x ∷ l) ≡ cond (test x) 1 0 + countOf test l
+  unfolding countOf
+  count-first x l = refl
+
+  pub count-taken : (k : ℕ) (l : List A) → countOf test (take k l) ≤ countOf test l
+  count-taken zero l = omega (arith, count-none)
+  count-taken (suc k) [] = omega arith
+  count-taken (suc k) (x ∷ l) = omega (arith, count-first x l, count-first x (take k l), count-taken k l)

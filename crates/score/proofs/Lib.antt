@@ -4,6 +4,8 @@ pub mod Shift
 pub mod Counts
 pub mod Walk
 pub mod Update
+pub mod PairLaws
+pub mod Order
 pub mod Scored
 pub mod Floats
 pub mod Unique

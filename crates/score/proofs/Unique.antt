@@ -20,6 +20,8 @@ use Rattle.score.proofs.decision.any_forbidden_entry.Kinds as any-forbi
 use Rattle.score.proofs.decision.any_forbidden_entry.Reads as any-forbidden-entry-reads
 use Rattle.score.proofs.decision.adaptive_scenecut.Kinds as adaptive-scenecut-kinds
 use Rattle.score.proofs.decision.adaptive_scenecut.Reads as adaptive-scenecut-reads
+use Rattle.score.proofs.numbers.is_misnumbered.Kinds as is-misnumbered-kinds
+use Rattle.score.proofs.numbers.is_misnumbered.Reads as is-misnumbered-reads
 
 pub new-unique : OneOutcome 0 new-kinds.ps new-kinds.r ScenecutResult (λ κs r e. r) new-reads.Post
 new-unique κs a r r′ e e′ p q = p ∙ sym q
@@ -44,3 +46,6 @@ any-forbidden-entry-unique κs a r r′ e e′ p q = p ∙ sym q
 
 pub adaptive-scenecut-unique : OneOutcome 0 adaptive-scenecut-kinds.ps adaptive-scenecut-kinds.r Bool (λ κs r e. r) adaptive-scenecut-reads.Post
 adaptive-scenecut-unique κs a r r′ e e′ p q = p ∙ sym q
+
+pub is-misnumbered-unique : OneOutcome 0 is-misnumbered-kinds.ps is-misnumbered-kinds.r Bool (λ κs r e. r) is-misnumbered-reads.Post
+is-misnumbered-unique κs a r r′ e e′ p q = p ∙ sym q

@@ -1,4 +1,5 @@
--- Document 01: "A score holds five f64 numbers, as `ScenecutResult`", and "`Vec` deque: a fixed array of 16 scores and a count".
+-- Document 01: "A score holds five f64 numbers, as `ScenecutResult`", and "`Vec` deque: a fixed array of 16 scores and a count";
+-- document 02, L5: "The score record gains its pair number."
 use mathlib.Core.List.{List}
 use mathlib.Core.Bool.{cond}
 use Prim.Native.Nat.{ℕ, _-_}
@@ -9,8 +10,9 @@ use Rattle.score.specs.declared.ScenecutResult.{ScenecutResult}
 use Rattle.score.specs.declared.ScoreDeque.{ScoreDeque}
 
 -- a score, by its numbers in the order of `ScenecutResult`
-abbrev pub scoreFrom : Float → Float → Float → Float → Float → ScenecutResult
-scoreFrom inter importance backward forward limit = record {
+abbrev pub scoreFrom : ℕ → Float → Float → Float → Float → Float → ScenecutResult
+scoreFrom pair inter importance backward forward limit = record {
+  «pair_number» = pair;
   «inter_cost» = inter;
   «imp_block_cost» = importance;
   «backward_adjusted_cost» = backward;
@@ -20,7 +22,7 @@ scoreFrom inter importance backward forward limit = record {
 
 -- what stands for a score that is not there
 abbrev pub noScore : ScenecutResult
-noScore = scoreFrom nan nan nan nan nan
+noScore = scoreFrom 0 nan nan nan nan nan
 
 -- the entries, front first: "slots past the count are no part of the state"
 abbrev pub content : ScoreDeque → List ScenecutResult

@@ -17,12 +17,12 @@ abbrev pub maxF : Float
 maxF = ofBits binary64 0x7fef_ffff_ffff_ffff
 
 -- "Fast: all four costs are delta and the threshold is 18 × depth / 8", which is `level`
-abbrev pub fastScore : Float → Float → ScenecutResult
-fastScore level delta = scoreFrom delta delta delta delta level
+abbrev pub fastScore : Float → ℕ → Float → ScenecutResult
+fastScore level pair delta = scoreFrom pair delta delta delta delta level
 
 -- "Standard: adjusted costs start at 0."
-abbrev pub standardScore : Measure → Float → ScenecutResult
-standardScore m back = scoreFrom (m .inter) (m .importance) back zeroF (m .threshold)
+abbrev pub standardScore : ℕ → Measure → Float → ScenecutResult
+standardScore pair m back = scoreFrom pair (m .inter) (m .importance) back zeroF (m .threshold)
 
 -- "the least of f64::MAX and (own inter − other's inter) .. front first, the nearer pair's kept on a tie, where the walk stops at the
 -- first difference below zero with 0": over the others' inter costs, with the least so far
@@ -51,7 +51,7 @@ forwardOf first new own forward =
 
 abbrev pub withForward : Bool → Float → ScenecutResult → ScenecutResult
 withForward first new e =
-    scoreFrom (e .«inter_cost») (e .«imp_block_cost») (e .«backward_adjusted_cost»)
+    scoreFrom (e .«pair_number») (e .«inter_cost») (e .«imp_block_cost») (e .«backward_adjusted_cost»)
     (forwardOf first new (e .«inter_cost») (e .«forward_adjusted_cost»)) (e .threshold)
 
 -- "Then each of these first entries takes ..": n entries from a place on, which is entry 0 or a later one
@@ -63,7 +63,7 @@ updatedFrom first (suc n) new (e ∷ es) = withForward first new e ∷ updatedFr
 abbrev pub updatedOf : ℕ → Float → List ScenecutResult → List ScenecutResult
 updatedOf o new l = updatedFrom true o new l
 
--- "Scoring puts the new entry in front."
+-- "Scoring puts the new entry in front."; document 02, L5: it says "which pair it is"
 abbrev pub scoreOf : Bool → Float → ℕ → ℕ → Measure → List ScenecutResult → List ScenecutResult
-scoreOf true level o pair m l = fastScore level (m .inter) ∷ l
-scoreOf false level o pair m l = standardScore m (backOf o pair (m .inter) l) ∷ updatedOf o (m .inter) l
+scoreOf true level o pair m l = fastScore level pair (m .inter) ∷ l
+scoreOf false level o pair m l = standardScore pair m (backOf o pair (m .inter) l) ∷ updatedOf o (m .inter) l

@@ -8,13 +8,15 @@ ghost use Rattle.score.specs.Deque.{scoreFrom, noScore, content, held, h
 use settings::Settings;
 
 pub mod decision;
+pub mod numbers;
 pub mod scoring;
 
 // The largest finite f64.
 pub const F64_MAX: f64 = 1.7976931348623157e308;
 
-// The scores of a pair of frames.
+// The scores of a pair of frames, and which pair that is.
 pub struct ScenecutResult {
+    pub pair_number: u64,
     pub inter_cost: f64,
     pub imp_block_cost: f64,
     pub backward_adjusted_cost: f64,
@@ -38,15 +40,17 @@ pub struct ScoreDeque {
 impl ScenecutResult {
     // Every score is made here, so that a further field has one place to go.
     pub fn new(
+        pair_number: u64,
         inter_cost: f64,
         imp_block_cost: f64,
         backward_adjusted_cost: f64,
         forward_adjusted_cost: f64,
         threshold: f64,
     ) -> ScenecutResult
-        ensures { λ r. ⌜ r ≡ scoreFrom «inter_cost» «imp_block_cost» «backward_adjusted_cost» «forward_adjusted_cost» threshold ⌝ }
+        ensures { λ r. ⌜ r ≡ scoreFrom «pair_number» «inter_cost» «imp_block_cost» «backward_adjusted_cost» «forward_adjusted_cost» threshold ⌝ }
     {
         ScenecutResult {
+            pair_number,
             inter_cost,
             imp_block_cost,
             backward_adjusted_cost,
@@ -60,7 +64,7 @@ impl ScoreDeque {
     pub fn empty() -> ScoreDeque
         ensures { λ r. ⌜ held r ≡ holding [] ⌝ }
     {
-        let none = ScenecutResult::new(0.0, 0.0, 0.0, 0.0, 0.0);
+        let none = ScenecutResult::new(0, 0.0, 0.0, 0.0, 0.0, 0.0);
         ScoreDeque {
             entries: [none; Settings::ROOM],
             count: 0,
@@ -95,7 +99,7 @@ impl ScoreDeque {
         out
     }
 
-    // Entry i, counted from the front; a score of NaNs where there is none.
+    // Entry i, counted from the front; a score of NaNs, of pair 0, where there is none.
     pub fn entry(self, i: usize) -> ScenecutResult
         ensures { λ r. ⌜ r ≡ getD (content self) i noScore ⌝ }
     {
@@ -104,7 +108,7 @@ impl ScoreDeque {
             return self.entries[i];
         }
         let nan = 0.0 / 0.0;
-        ScenecutResult::new(nan, nan, nan, nan, nan)
+        ScenecutResult::new(0, nan, nan, nan, nan, nan)
     }
 
     // Without the last entry, where there are more than `most`.

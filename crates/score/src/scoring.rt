@@ -73,6 +73,7 @@ fn with_forward(first: bool, new: f64, e: ScenecutResult) -> ScenecutResult
 {
     let forward = forward_cost(first, new, e.inter_cost, e.forward_adjusted_cost);
     ScenecutResult::new(
+        e.pair_number,
         e.inter_cost,
         e.imp_block_cost,
         e.backward_adjusted_cost,
@@ -96,16 +97,16 @@ fn updated(d: ScoreDeque, o: usize, new: f64) -> ScoreDeque
     out
 }
 
-fn fast_score(level: f64, delta: f64) -> ScenecutResult
-    ensures { λ r. ⌜ r ≡ fastScore level delta ⌝ }
+fn fast_score(level: f64, pair: u64, delta: f64) -> ScenecutResult
+    ensures { λ r. ⌜ r ≡ fastScore level pair delta ⌝ }
 {
-    ScenecutResult::new(delta, delta, delta, delta, level)
+    ScenecutResult::new(pair, delta, delta, delta, delta, level)
 }
 
-fn standard_score(m: Measure, back: f64) -> ScenecutResult
-    ensures { λ r. ⌜ r ≡ standardScore m back ⌝ }
+fn standard_score(pair: u64, m: Measure, back: f64) -> ScenecutResult
+    ensures { λ r. ⌜ r ≡ standardScore pair m back ⌝ }
 {
-    ScenecutResult::new(m.inter, m.importance, back, 0.0, m.threshold)
+    ScenecutResult::new(pair, m.inter, m.importance, back, 0.0, m.threshold)
 }
 
 // The deque with a pair scored. `level` is the threshold of Fast mode.
@@ -121,11 +122,11 @@ pub fn run_comparison(
 {
     let e = d.within();
     if fast {
-        let s = fast_score(level, m.inter);
+        let s = fast_score(level, pair, m.inter);
         return e.pushed_front(s);
     }
     let back = back_cost(o, pair, m.inter, e);
     let u = updated(e, o, m.inter);
-    let s = standard_score(m, back);
+    let s = standard_score(pair, m, back);
     u.pushed_front(s)
 }
