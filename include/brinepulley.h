@@ -171,10 +171,10 @@ int64_t brine_satd8x8_16(const uint16_t *first, size_t first_len, const uint16_t
 #define BRINE_ENTRIES 16
 #define BRINE_SET_LIMIT BRINE_ENTRIES
 
-/* A detector's state lives in two places that the caller keeps: `numbers`, BRINE_NUMBERS of them, and `scores`, BRINE_SCORES
- * doubles, which are BRINE_SCORE_DOUBLES for each score. Places with other lengths are no state. Keep both between the calls,
- * and change nothing in them. */
-#define BRINE_NUMBERS 13
+/* A detector's state lives in two places that the caller keeps: `numbers`, BRINE_NUMBERS of them, one for each score among
+ * them, and `scores`, BRINE_SCORES doubles, which are BRINE_SCORE_DOUBLES for each score. Places with other lengths are no state.
+ * Keep both between the calls, and change nothing in them. */
+#define BRINE_NUMBERS (BRINE_PAIRS + BRINE_ENTRIES)
 #define BRINE_SCORE_DOUBLES 5
 #define BRINE_SCORES (BRINE_ENTRIES * BRINE_SCORE_DOUBLES)
 
@@ -192,11 +192,14 @@ enum brine_number {
     BRINE_LAST_LENGTH,
     BRINE_FIRST_NUMBER,   /* the frame number of the first accepted call; 0 before any */
     BRINE_RELEASE_NUMBER, /* no frame numbered below it is looked at again, not in a restart either; 0 before any call */
-    BRINE_COUNT           /* how many scores there are, from the front of `scores` on */
+    BRINE_COUNT,          /* how many scores there are, from the front of `scores` on */
+    BRINE_PAIRS           /* numbers[BRINE_PAIRS + k] is the pair number of score k, see below */
 };
 
-/* Score k is the doubles from scores[BRINE_SCORE_DOUBLES * k] on, in this order. The newest score is score 0. Doubles past the
- * count are no part of the state: they are neither read nor written. */
+/* Score k is the doubles from scores[BRINE_SCORE_DOUBLES * k] on, in this order. The newest score is score 0. Its pair number is
+ * numbers[BRINE_PAIRS + k]: pair n are the frames n - 1 and n. From the front on these numbers fall by one, save that a first
+ * call may score an item of its set twice: then the second score has the number of the one behind it. Doubles and pair numbers
+ * past the count are no part of the state: they are neither read nor written. */
 enum brine_double {
     BRINE_INTER,
     BRINE_IMPORTANCE,
@@ -210,7 +213,8 @@ enum brine_double {
  * the lookahead distance: 5 or more has the detector look five pairs ahead, less has it look at none. `min` and `max` are the
  * distances of keyframes: below `min` there is no cut; else from `max` on there is one, if the set has six frames or more or the
  * lookahead is below 5. Any number is taken for the three.
- * Returns 0, and all the numbers are written; there is no score yet, so `scores` is not written.
+ * Returns 0, and the numbers below BRINE_PAIRS are written; there is no score yet, so neither a pair number nor `scores` is
+ * written.
  * Refusals: 11, where numbers_len is not BRINE_NUMBERS or scores_len not BRINE_SCORES; 6; 5. Then nothing is written. */
 int64_t brine_detector_fresh(size_t width, size_t height, uint32_t depth, size_t lookahead, uint32_t mode,
     uint64_t min, uint64_t max, uint64_t *numbers, size_t numbers_len, double *scores, size_t scores_len);
@@ -234,7 +238,7 @@ int64_t brine_detector_fresh(size_t width, size_t height, uint32_t depth, size_t
  * reads `inter` alone and None mode no list; a list that is not read may be anything, as NULL with length 0.
  * Returns what was decided:
  *   0  no cut and no score     1  a cut without a score     2  no cut, with a score     3  a cut, with a score
- * With a score, it is score numbers[BRINE_OFFSET].
+ * With a score, it is score numbers[BRINE_OFFSET], of pair numbers[BRINE_PAIRS + numbers[BRINE_OFFSET]].
  * After the call the detector needs no frame numbered below numbers[BRINE_RELEASE_NUMBER]: these may be purged, once what you
  * write down of the call is safe. A restart needs none of them: a fresh detector of the same settings that is given the
  * accepted calls again, from the one numbered one above the release number to the last, ends in this state,
@@ -243,12 +247,15 @@ int64_t brine_detector_fresh(size_t width, size_t height, uint32_t depth, size_t
  * Refusals:
  *   11, where a length is not the state's, or the settings are ones that `fresh` refuses, or the count is not below
  *       BRINE_ENTRIES (or above 10 with a lookahead of 5 or more), or the offset is not below the count (with no score: not 5
- *       or 0, as the lookahead has it), or a score's inter cost is one that 10 forbids;
+ *       or 0, as the lookahead has it), or a score's inter cost is one that 10 forbids, or there are scores in None mode or
+ *       before any accepted call, or two neighbours' pair numbers neither fall by one nor are equal, or more than one pair of
+ *       neighbours is equal, or, where the last length is above 5 or 0, as the lookahead has it, the front's pair number is
+ *       not the last number and the offset together;
  *   7, 8, 9;
  *   10, where a list that is read has not set_len - 1 items, or an inter cost is a NaN, infinite or below 0, or an importance
  *       or a threshold is infinite or below 0 (there a NaN is allowed).
- * Then nothing is written. An accepted call writes the numbers from BRINE_OFFSET on and, if there is a score, the scores
- * up to the count. */
+ * Then nothing is written. An accepted call writes the numbers from BRINE_OFFSET to BRINE_COUNT and, if there is a score, the
+ * scores and the pair numbers up to the count. */
 int64_t brine_detector_step(uint64_t *numbers, size_t numbers_len, double *scores, size_t scores_len,
     size_t set_len, uint64_t frame, uint64_t previous_keyframe,
     const double *inter, size_t inter_len, const double *importance, size_t importance_len,

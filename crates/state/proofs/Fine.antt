@@ -135,7 +135,7 @@ accepts s c f =
 pub step-same : (s t : View) (c : Call) → s .settings ≡ t .settings → s .entries ≡ t .entries → s .offset ≡ t .offset → s .lastNumber ≡ t .lastNumber → s .lastLength ≡ t .lastLength
     → stepFault s c ≡ stepFault t c
 unfolding stepFault
-step-same s t c p q r n l = rw (state-same s t p q r, p, r, n, l)
+step-same s t c p q r n l = rw (state-same s t p q r n l, p, r, n, l)
 
 -- settings that are refused are refused in every state
 pub settings-refused : (s : View) (c : Call) → (settingsFault (s .settings) ≡ 0 → ⊥) → stepFault s c ≡ 11

@@ -20,8 +20,8 @@ use Rattle.state.proofs.State as state
 pub state-room : (s : State) (vs : List Val) → Is state.the-row s vs → length (s .deque .entries) ≡ room
 state-room s vs g = roomy (s .deque) _ (g .1 .1 .1 .0)
 
-module _ (g : Settings) (count o : ℕ) where
-  by-case : (b : Bool) → ltb room count ≡ b → unfit g (min count room) o ≡ unfit g count o
+module _ (g : Settings) (count o last : ℕ) where
+  by-case : (b : Bool) → ltb room count ≡ b → unfit g (min count room) o last ≡ unfit g count o last
   by-case true e =
       let h : room < count = ltb-true room count e in
       let n : min count room ≡ room = omega arith in
@@ -31,5 +31,5 @@ module _ (g : Settings) (count o : ℕ) where
       let n : min count room ≡ count = omega arith in
       rw n
 
-  pub unfit-min : unfit g (min count room) o ≡ unfit g count o
+  pub unfit-min : unfit g (min count room) o last ≡ unfit g count o last
   unfit-min = by-case (ltb room count) refl

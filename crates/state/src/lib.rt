@@ -3,10 +3,12 @@ ghost use mathlib.Core.Path.{_≡_};
 ghost use Prim.Native.Nat.{_-_};
 ghost use Rattle.score.specs.Search.{anyOf};
 ghost use Rattle.score.specs.Costs.{forbidden};
+ghost use Rattle.score.specs.Deque.{content};
 ghost use Rattle.state.specs.State.{view, call};
-ghost use Rattle.state.specs.Refusals.{unfit, stateFault, numberFault, lengthFault, stopFault, badList, listsFault, stepFault};
+ghost use Rattle.state.specs.Refusals.{unfit, frontAstray, stateFault, numberFault, lengthFault, stopFault, badList, listsFault, stepFault};
 use score::ScoreDeque;
 use score::decision;
+use score::numbers;
 use settings::Settings;
 
 // What a detector keeps between calls. A last number of 0 says that no call was accepted yet.
@@ -23,9 +25,9 @@ pub struct State {
 // Frame numbers lie below this.
 const NUMBER_LIMIT: u64 = 0x1_0000_0000;
 
-// Whether settings, count and offset are what no state has. The count is looked at before any slot is read.
-fn is_unfit(g: Settings, count: usize, o: usize) -> bool
-    ensures { λ r. ⌜ r ≡ unfit g count o ⌝ }
+// Whether settings, count, offset and last number are what no state has. The count is looked at before any slot is read.
+fn is_unfit(g: Settings, count: usize, o: usize, last: u64) -> bool
+    ensures { λ r. ⌜ r ≡ unfit g count o last ⌝ }
 {
     let fault = g.fault();
     let a = g.lookahead_offset();
@@ -35,7 +37,29 @@ fn is_unfit(g: Settings, count: usize, o: usize) -> bool
     let over_window = (a == Settings::NORMAL_LOOKAHEAD) & (window < count);
     let past = (count != 0) & (count <= o);
     let astray = (count == 0) & (o != a);
-    (fault != 0) | (over_room | (over_window | (past | astray)))
+    let in_none = (g.mode == Settings::NONE) & (count != 0);
+    let before_call = (last == 0) & (count != 0);
+    (fault != 0) | (over_room | (over_window | (past | (astray | (in_none | before_call)))))
+}
+
+// Whether the front's number is another than last + o, which is not computed: it may be larger than any number. After a call
+// with L up to A the front is free, and an empty deque has none.
+fn is_front_astray(g: Settings, last: u64, last_length: usize, o: usize, d: ScoreDeque) -> bool
+    ensures { λ r. ⌜ r ≡ frontAstray g last «last_length» o (content d) ⌝ }
+{
+    let a = g.lookahead_offset();
+    if last_length <= a {
+        return false;
+    }
+    if d.count == 0 {
+        return false;
+    }
+    let front = d.entry(0);
+    let number = front.pair_number;
+    if number < last {
+        return true;
+    }
+    number - last != (o as u64)
 }
 
 // Refusal 11 of a state, or 0.
@@ -44,10 +68,16 @@ fn state_fault(s: State) -> u32
 {
     let d = s.deque;
     let g = s.settings;
-    if is_unfit(g, d.count, s.offset) {
+    if is_unfit(g, d.count, s.offset, s.last_number) {
         return 11;
     }
     if decision::any_forbidden_entry(d) {
+        return 11;
+    }
+    if numbers::is_misnumbered(d) {
+        return 11;
+    }
+    if is_front_astray(g, s.last_number, s.last_length, s.offset, d) {
         return 11;
     }
     0
