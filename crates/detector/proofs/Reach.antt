@@ -199,6 +199,21 @@ module _ (s : View) (c : Call) (e : ScenecutResult) where
           let same : getD (t .entries) (t .offset) noScore ≡ e = cc in
           entry-kept (s .settings) (c .number) t (good s c (fine s c q) l m) (ltb (normalLookahead + lookaheadOffset (s .settings)) (length (t .entries))) refl ∙ same
 
+-- a step with a score leaves an entry
+pub scored-some : (s : View) (c : Call) → stepFault s c ≡ 0 → lookaheadOffset (s .settings) < c .setLength → isNone (s .settings) ≡ false
+    → 0 < length (scoredOf s c (progressOf s c) .state .entries)
+scored-some s c q l m = by (ltb (normalLookahead + lookaheadOffset (s .settings)) (length (t .entries))) refl
+  where
+    t : Turn
+    t = progressOf s c
+
+    by : (b : Bool) → ltb (normalLookahead + lookaheadOffset (s .settings)) (length (t .entries)) ≡ b
+        → 0 < length (cond b (take (length (t .entries) - 1) (t .entries)) (t .entries))
+    by true e =
+        let w = good s c (fine s c q) l m in
+        omega (arith, w .spare (ltb-true _ _ e), length-take-le (length (t .entries) - 1) (t .entries) (omega arith))
+    by false e = omega (arith, good s c (fine s c q) l m .inside)
+
 then-passes : (before : Outcome) (c : Call) → stateFault (before .state) ≡ 0 → stateFault (thenStep before c .state) ≡ 0
 then-passes before c e = by (before .answer)
   where
