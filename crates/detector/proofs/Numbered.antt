@@ -19,7 +19,7 @@ use Rattle.score.specs.Scores.{scoreOf}
 use Rattle.score.specs.Numbers.{numbersOf}
 use Rattle.score.proofs.Scored.{score-long}
 use Rattle.score.proofs.PairLaws.{number-at, numbers-long, numbers-taken, numbers-scored}
-use Rattle.state.specs.State.{View, Call}
+use Rattle.state.specs.State.{View, Call, view}
 use Rattle.state.specs.Refusals.{stateFault, stepFault}
 use Rattle.state.proofs.Tests.{and-both, and-left}
 use Rattle.state.proofs.Well.{well}
@@ -28,14 +28,15 @@ use Rattle.detector.specs.Rules.{Turn, againOf, itemsOf, rule4, rule5, r
 use Rattle.detector.specs.Step.{Outcome, itemOf, progressOf, bareOf, scoredOf, stepOf}
 use Rattle.detector.specs.Fresh.{freshView}
 use Rattle.detector.specs.Runs.{stateAfter, allAccepted}
-use Rattle.detector.specs.Histories.{Detector, Made, History, lastKept, acceptedCalls}
+use Rattle.detector.specs.Histories.{Detector, History, acceptedCalls, byValue}
 use Rattle.detector.specs.Numbers.{pairsFrom, repeats, scoredPairs, Numbered, scores, NumberedBy, AlwaysNumbered}
 use Rattle.detector.proofs.Items.{items-numbers, pairs-long, pairs-more}
 use Rattle.detector.proofs.Cases.{step-cases, step-scored, leaves}
 use Rattle.detector.proofs.Begins.{empty}
 use Rattle.detector.proofs.Reach.{fresh-passes, step-passes, scored-passes, scored-some}
 use Rattle.detector.proofs.Left.{settings-kept}
-use Rattle.detector.proofs.Histories.{Shows, history-leaves}
+use Rattle.detector.proofs.Account.{after-passes}
+use Rattle.detector.proofs.Histories.{Shows, history-leaves, value-shows}
 
 -- ---- the pairs that are scored
 
@@ -210,12 +211,11 @@ reached-numbered g (c ∷ cs) e a =
     let s = stepOf (freshView g) c .state in
     let p = and-both (eqb (stepFault (freshView g) c) 0) _ a in
     let q = eqb-true (stepFault (freshView g) c) 0 (p .0) in
-    let kept = settings-kept (freshView g) c in
-    (
+    let kept = settings-kept (freshView g) c in (
       λ t.
-      let u = and-both (not (isNone g)) _ t in
-      let mode = not-true (isNone g) (u .0) in
-      rw kept at (numbered-after c s cs (step-passes (freshView g) c (fresh-passes g e)) (rw kept mode) (p .1) (rw kept (first-numbered g c q (ltb-true _ _ (u .1)) mode e))),
+          let u = and-both (not (isNone g)) _ t in
+          let mode = not-true (isNone g) (u .0) in
+          rw kept at (numbered-after c s cs (step-passes (freshView g) c (fresh-passes g e)) (rw kept mode) (p .1) (rw kept (first-numbered g c q (ltb-true _ _ (u .1)) mode e))),
       λ t. quiet-after s cs (p .1) (first-quiet g c q (λ more. not-false (isNone g) (and-left (not (isNone g)) _ t (lt-ltb _ _ more)))),
     )
 
@@ -225,4 +225,8 @@ always-numbered D S g h =
     let begun = S .begins g (h .begun) (h .fresh) in
     let left = history-leaves D S (h .begun) (h .made) (begun .0) (h .follows) in
     let same = begun .1 in
-    rw (left .0, same) (reached-numbered g (acceptedCalls h) (begun .2) (rw same at (left .1)))
+    rw (left .0, same)
+    (reached-numbered g (acceptedCalls h) (begun .2) (rw same at (left .1)), after-passes (freshView g) (acceptedCalls h) (fresh-passes g (begun .2)))
+
+pub value-numbered : AlwaysNumbered byValue view
+value-numbered = always-numbered byValue value-shows

@@ -10,6 +10,7 @@ use Rattle.settings.specs.declared.Settings.{Settings}
 use Rattle.settings.specs.Settings.{lookaheadOffset, isNone}
 use Rattle.score.specs.Numbers.{numbersOf}
 use Rattle.state.specs.State.{View, Call}
+use Rattle.state.specs.Refusals.{stateFault}
 use Rattle.detector.specs.Histories.{Detector, History, lastKept, acceptedCalls}
 
 -- k pairs from pair n on, the newest first: n + k − 1 down to n
@@ -46,6 +47,9 @@ abbrev pub NumberedBy : Settings → List Call → View → Type 0
 NumberedBy g [] s = s .entries ≡ []
 NumberedBy g (c ∷ cs) s = (scores g c ≡ true → Numbered g c s) × (scores g c ≡ false → s .entries ≡ [])
 
--- of a detector that runs, whose states are read by `seen`: after every history, refused calls among it
+-- of a detector that runs, whose states are read by `seen`: after every history, refused calls among it, the state has these numbers, and it
+-- passes 11
 abbrev pub AlwaysNumbered : (D : Detector) → (D .Kept → View) → Type 0
-AlwaysNumbered D seen = (g : Settings) (h : History D g) → NumberedBy g (acceptedCalls h) (seen (lastKept h))
+AlwaysNumbered D seen =
+    (g : Settings) (h : History D g) → let s = seen (lastKept h) in
+    NumberedBy g (acceptedCalls h) s × (stateFault s ≡ 0)

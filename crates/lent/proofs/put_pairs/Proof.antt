@@ -45,8 +45,7 @@ loop-again c =
     let inv = c .before .loop .inv in
     let f = few c in
     let r : length (d .entries) ≡ room = roomy d _ (b .before .before .good .1 .0) in
-    let rest : i < length (drop pairsPlace ns) = omega (arith, length-drop pairsPlace ns) in
-    (
+    let rest : i < length (drop pairsPlace ns) = omega (arith, length-drop pairsPlace ns) in (
       omega arith,
       rw length-set (inv .1),
       take-set-le pairsPlace out (pairsPlace + i) pair (omega arith) ∙ inv .2,
