@@ -3,13 +3,13 @@
 -- Assumes nothing.
 use mathlib.Core.Path.{_≡_, refl, sym, ap, _∙_}
 use mathlib.Core.Bool.{Bool, true, false, not, _&&_, cond, true≢false}
-use mathlib.Core.List.{List, [], _∷_, _++_, append-nil}
-use Prim.Native.Nat.{ℕ, zero, suc, _+_, _-_, _≤_, _<_}
+use mathlib.Core.List.{List, [], _∷_, append-nil}
+use Prim.Native.Nat.{ℕ, suc, _+_, _-_, _≤_, _<_}
 use native.Mathlib.Nat.{add-zero, zero-add}
 use native.Mathlib.Omega.{arith}
-use borrow.Author.Tests.{ltb-true, ltb-false, lt-ltb, eqb-true, ne-eqb, not-true, not-false}
+use borrow.Author.Tests.{ltb-true, lt-ltb, eqb-true, ne-eqb, not-true, not-false}
 use lib.Dec.{eqb, ltb}
-use lib.ListN.{length, take, getD, length-append}
+use lib.ListN.{length, take, getD}
 use lib.Seq.{getD-take, length-take-le, take-take, take-length}
 use Rattle.settings.specs.declared.Settings.{Settings}
 use Rattle.settings.specs.Settings.{normalLookahead, lookaheadOffset, isNone, isFast, isScaled, fastThreshold, settingsFault}
@@ -24,14 +24,14 @@ use Rattle.state.specs.Refusals.{stateFault, stepFault}
 use Rattle.state.proofs.Tests.{and-both, and-left}
 use Rattle.state.proofs.Well.{well}
 use Rattle.state.proofs.Fine.{Fine, fine}
-use Rattle.detector.specs.Rules.{Turn, againOf, itemsOf, rule4, rule5, rule7}
-use Rattle.detector.specs.Step.{Outcome, itemOf, progressOf, bareOf, scoredOf, stepOf}
+use Rattle.detector.specs.Rules.{againOf, itemsOf, rule7}
+use Rattle.detector.specs.Step.{itemOf, progressOf, bareOf, scoredOf, stepOf}
 use Rattle.detector.specs.Fresh.{freshView}
 use Rattle.detector.specs.Runs.{stateAfter, allAccepted}
-use Rattle.detector.specs.Histories.{Detector, History, acceptedCalls, byValue}
-use Rattle.detector.specs.Numbers.{pairsFrom, repeats, scoredPairs, Numbered, scores, NumberedBy, AlwaysNumbered}
-use Rattle.detector.proofs.Items.{items-numbers, pairs-long, pairs-more}
-use Rattle.detector.proofs.Cases.{step-cases, step-scored, leaves}
+use Rattle.detector.specs.Histories.{Detector, acceptedCalls, byValue}
+use Rattle.detector.specs.Numbers.{pairsFrom, repeats, scoredPairs, Numbered, NumberedBy, AlwaysNumbered}
+use Rattle.detector.proofs.Items.{items-numbers, pairs-more}
+use Rattle.detector.proofs.Cases.{step-cases, step-scored}
 use Rattle.detector.proofs.Begins.{empty}
 use Rattle.detector.proofs.Reach.{fresh-passes, step-passes, scored-passes, scored-some}
 use Rattle.detector.proofs.Left.{settings-kept}
