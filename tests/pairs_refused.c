@@ -23,7 +23,7 @@ static struct step next_step(void)
     return step_of((size_t)detector.numbers[LENGTH], detector.numbers[LAST] + 1, 0, 5, 3, 40);
 }
 
-/* Neither a good call nor one to which each other refusal applies gets another number, and nothing changes. */
+/* A good call gets 11, and so does one that 7, 8 and 10 refuse too. Nothing changes. */
 static void refused(void)
 {
     const struct step step = next_step(), bad = {.set = BRINE_SET_LIMIT + 1, .frame = 0, .previous = 1, .inter_count = 1};
@@ -51,13 +51,13 @@ static void shift(size_t place, uint64_t by)
         detector.numbers[PAIRS + entry] += by;
 }
 
-/* A good state: ten entries behind a call of frame 40, or 15 without lookahead. */
+/* A good state, with as many entries as it may have: ten, or 15 without lookahead. */
 static void make_good(size_t lookahead)
 {
     if (lookahead >= 5)
-        make(lookahead, 10, 5, 40, 7, 45);
+        make(lookahead, 10, 5, 100, 7, 105);
     else
-        make(lookahead, BRINE_ENTRIES - 1, 3, 40, 5, 43);
+        make(lookahead, BRINE_ENTRIES - 1, 3, 100, 5, 103);
 }
 
 static void none_mode(void)
@@ -135,7 +135,7 @@ static void equal_twice(void)
         }
     make_good(5);
     for (size_t entry = 0; entry < 10; entry++)
-        detector.numbers[PAIRS + entry] = 45;
+        detector.numbers[PAIRS + entry] = 105;
     refused();
 }
 

@@ -63,14 +63,14 @@ static void refusal_11_numbers(void)
     refuses_number(PAIRS + 9, ((uint64_t)1 << 32) + 25);
 }
 
-/* The count's limit without lookahead, behind a call of frame 40, and o of an empty deque. */
+/* The count's limit without lookahead, behind a call of frame 100, and o of an empty deque. */
 static void refusal_11_counts(void)
 {
-    struct step step = step_of(2, 41, 0, 5, 3, 40);
+    struct step step = step_of(2, 101, 0, 5, 3, 40);
     detector_make(&detector, STANDARD, 4);
     memset(detector.scores, 0, BRINE_SCORES * sizeof(double));
-    detector_number(&detector, BRINE_ENTRIES, 40);
-    detector.numbers[LAST] = 40;
+    detector_number(&detector, BRINE_ENTRIES, 100);
+    detector.numbers[LAST] = 100;
     detector.numbers[LENGTH] = 2;
     detector.numbers[COUNT] = BRINE_ENTRIES;
     detector_refuses(&detector, &step, 11);

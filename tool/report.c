@@ -5,7 +5,6 @@
 #include "dump.h"
 
 #include <inttypes.h>
-#include <stdio.h>
 #include <sys/stat.h>
 #include <unistd.h>
 
@@ -27,8 +26,8 @@ struct behind {
     const char *pair, *release, *large, *time, *purge;
 };
 
-/* For people the pair stands beside its score. For machines it comes behind the columns that were there before it, so that they keep
-   their places; the last one is the purge, by which it is found. */
+/* For people the pair stands beside its score. For machines it stands where it moves no other column: a reader may count them, and
+   finds the purge as the last one. */
 static void end_line(struct report *report, const struct behind *texts)
 {
     const struct options *options = report->options;
@@ -168,8 +167,8 @@ static void tell_progress(struct report *report)
 
 enum status report_take(void *taker, const struct verdict *verdict)
 {
-    /* by enum form */
-    static void (*const add[])(struct report *, const struct verdict *) = {add_line, take_cut, add_bar, add_dump};
+    static void (*const add[])(struct report *, const struct verdict *) = {
+        [FORM_LINES] = add_line, [FORM_CUTS] = take_cut, [FORM_BARS] = add_bar, [FORM_DUMP] = add_dump};
     struct report *report = taker;
 
     if (verdict->first) {
