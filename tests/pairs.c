@@ -147,17 +147,27 @@ static void lookahead(void)
     }
 }
 
-/* The first call of six frames, in full. */
+/* The table of docs/DIFFERENCES.md: a first set of six frames with lookahead 5, and sets of six after it. */
 static void six_frames(void)
 {
-    static const uint64_t want[] = {24, 24, 23, 22, 21, 20};
-    const struct step step = call_of(6, 20);
+    static const uint64_t rows[][10] = {
+        {5, 5, 4, 3, 2, 1},
+        {6, 5, 5, 4, 3, 2, 1},
+        {7, 6, 5, 5, 4, 3, 2, 1},
+        {8, 7, 6, 5, 5, 4, 3, 2, 1},
+        {9, 8, 7, 6, 5, 5, 4, 3, 2, 1},
+        {10, 9, 8, 7, 6, 5, 5, 4, 3, 2},
+        {11, 10, 9, 8, 7, 6, 5, 5, 4, 3}};
     detector_make(&detector, STANDARD, 5);
-    EXPECT_NUMBER(detector_step(&detector, &step), 2);
-    EXPECT_NUMBER((int64_t)detector.numbers[COUNT], 6);
-    EXPECT_NUMBER((int64_t)detector.numbers[OFFSET], 4);
-    for (size_t entry = 0; entry < 6; entry++)
-        EXPECT_NUMBER((int64_t)detector_pair(&detector, entry), (int64_t)want[entry]);
+    for (size_t i = 0; i < sizeof rows / sizeof rows[0]; i++) {
+        const struct step step = call_of(6, i + 1);
+        const size_t count = i < 4 ? i + 6 : 10;
+        EXPECT_NUMBER(detector_step(&detector, &step), 2);
+        EXPECT_NUMBER((int64_t)detector.numbers[COUNT], (int64_t)count);
+        EXPECT_NUMBER((int64_t)detector.numbers[OFFSET], 4);
+        for (size_t entry = 0; entry < count; entry++)
+            EXPECT_NUMBER((int64_t)detector_pair(&detector, entry), (int64_t)rows[i][entry]);
+    }
 }
 
 /* Where frames are reduced, an item's second score is 0 in all four costs. Its pair is the item's all the same. */
@@ -210,7 +220,7 @@ static void no_score(void)
 const struct test pair_tests[] = {
     {"pairs: lookahead below 5, sets of 2 to 16 frames", no_lookahead},
     {"pairs: lookahead of 5 and more, sets of 6 to 16 frames", lookahead},
-    {"pairs: a first set of six frames", six_frames},
+    {"pairs: a first set of six frames, as docs/DIFFERENCES.md has it", six_frames},
     {"pairs: the repeat in scaled Fast mode", reduced},
     {"pairs: a call without a score writes none", no_score},
     {0},
