@@ -21,15 +21,15 @@ use Rattle.score.proofs.Scored.{score-long}
 use Rattle.score.proofs.PairLaws.{number-at, numbers-long, numbers-taken, numbers-scored}
 use Rattle.state.specs.State.{View, Call, view}
 use Rattle.state.specs.Refusals.{stateFault, stepFault}
-use Rattle.state.proofs.Tests.{and-both, and-left}
+use Rattle.state.proofs.Tests.{and-both, and-right}
 use Rattle.state.proofs.Well.{well}
 use Rattle.state.proofs.Fine.{Fine, fine}
-use Rattle.detector.specs.Rules.{againOf, itemsOf, rule7}
+use Rattle.detector.specs.Rules.{againOf, itemsOf, startsAhead, rule7}
 use Rattle.detector.specs.Step.{itemOf, progressOf, bareOf, scoredOf, stepOf}
 use Rattle.detector.specs.Fresh.{freshView}
 use Rattle.detector.specs.Runs.{stateAfter, allAccepted}
 use Rattle.detector.specs.Histories.{Detector, acceptedCalls, byValue}
-use Rattle.detector.specs.Numbers.{pairsFrom, repeats, scoredPairs, Numbered, NumberedBy, AlwaysNumbered}
+use Rattle.detector.specs.Numbers.{pairsFrom, repeats, repeatedPair, scoredPairs, NewestPairs, lastScoring, NumberedBy, AlwaysNumbered}
 use Rattle.detector.proofs.Items.{items-numbers, pairs-more}
 use Rattle.detector.proofs.Cases.{step-cases, step-scored}
 use Rattle.detector.proofs.Begins.{empty}
@@ -42,12 +42,12 @@ use Rattle.detector.proofs.Histories.{Shows, history-leaves, value-show
 
 module _ (g : Settings) (c : Call) where
   pairs-next : (f : ℕ) → scoredPairs g c (suc f) ≡ suc (getD (scoredPairs g c f) 0 0) ∷ scoredPairs g c f
-  pairs-next f = by (repeats g (c .setLength)) refl
+  pairs-next f = by (repeats g c) refl
     where
-      by : (b : Bool) → repeats g (c .setLength) ≡ b → scoredPairs g c (suc f) ≡ suc (getD (scoredPairs g c f) 0 0) ∷ scoredPairs g c f
+      by : (b : Bool) → repeats g c ≡ b → scoredPairs g c (suc f) ≡ suc (getD (scoredPairs g c f) 0 0) ∷ scoredPairs g c f
       by true e =
           let n : suc f + 1 ≡ suc (f + 1) = omega arith in
-          rw (e, n) (pairs-more (c .number + (c .setLength - 2)) (f + 1) (pairsFrom (c .number) (c .setLength - 1)) (omega arith))
+          rw (e, n) (pairs-more (repeatedPair c) (f + 1) (pairsFrom (c .number) (c .setLength - 1)) (omega arith))
       by false e =
           let n : suc f + suc (lookaheadOffset g) ≡ suc (f + suc (lookaheadOffset g)) = omega arith in
           rw (e, n) (simp append-nil at (pairs-more (c .number) (f + suc (lookaheadOffset g)) [] (omega arith)))
@@ -65,6 +65,12 @@ trimmed-numbers m l ps e = by (ltb m (length l)) refl
         rw (n, numbers-taken (length l - 1) l, e) (take-take (length l - 1) (length l) ps (omega arith))
     by false h = e
 
+-- ---- what a state holds after the last call n that scored; as long as sets have more than A frames, that is the last call
+
+record Held (g : Settings) (c : Call) (n : ℕ) (s : View) : Type 0 where
+  pairs : NewestPairs g c n s
+  live : lookaheadOffset g < s .lastLength → n ≡ s .lastNumber
+
 -- ---- a first call
 
 module _ (g : Settings) (c : Call) (q : stepFault (freshView g) c ≡ 0) (more : lookaheadOffset g < c .setLength) (mode : isNone g ≡ false) where
@@ -79,13 +85,13 @@ module _ (g : Settings) (c : Call) (q : stepFault (freshView g) c ≡ 0) (more :
   two = empty (freshView g) c (fine (freshView g) c q) more mode refl .1
 
   first-pairs : numbersOf (progressOf (freshView g) c .entries) ≡ scoredPairs g c 0
-  first-pairs = by (ltb 0 (lookaheadOffset g) && ltb (lookaheadOffset g + 1) (c .setLength)) refl
+  first-pairs = by (startsAhead (lookaheadOffset g) (c .setLength)) refl
     where
       scored : (o : ℕ) (again : Bool) (l : List ScenecutResult)
           → numbersOf (scoreOf (isFast g) (fastThreshold g) o (c .number + o) (againOf again (itemOf (freshView g) c o)) l) ≡ (c .number + o) ∷ numbersOf l
       scored o again l = numbers-scored (isFast g) (fastThreshold g) o (c .number + o) (againOf again (itemOf (freshView g) c o)) l
 
-      by : (b : Bool) → ltb 0 (lookaheadOffset g) && ltb (lookaheadOffset g + 1) (c .setLength) ≡ b
+      by : (b : Bool) → startsAhead (lookaheadOffset g) (c .setLength) ≡ b
           → numbersOf (progressOf (freshView g) c .entries) ≡ scoredPairs g c 0
       by true e =
           let l = and-both (ltb 0 (lookaheadOffset g)) _ e .1 in
@@ -94,7 +100,7 @@ module _ (g : Settings) (c : Call) (q : stepFault (freshView g) c ≡ 0) (more :
           let l : ltb (c .setLength - 2 + 1) (c .setLength) ≡ true = lt-ltb (c .setLength - 2 + 1) (c .setLength) (omega (arith, two)) in
           rw (e, l) (scored (c .setLength - 2) (isScaled g) (items (c .setLength - 1)) ∙ rw (item-numbers (c .setLength - 1)) (ap (λ (k : ℕ). k ∷ pairsFrom (c .number) (c .setLength - 1)) (sym (add-zero _))))
 
-  first-numbered : settingsFault g ≡ 0 → Numbered g c (stepOf (freshView g) c .state)
+  first-numbered : settingsFault g ≡ 0 → Held g c (c .number) (stepOf (freshView g) c .state)
   first-numbered settled =
       let l = progressOf (freshView g) c .entries in
       let all : numbersOf l ≡ take (length l) (scoredPairs g c 0) = first-pairs ∙ rw (← first-pairs, ← numbers-long l) (sym (take-length (numbersOf l))) in
@@ -102,20 +108,26 @@ module _ (g : Settings) (c : Call) (q : stepFault (freshView g) c ≡ 0) (more :
       let w = well _ (scored-passes (freshView g) c (fresh-passes g settled) q more mode) in
       rw (step-scored (freshView g) c q more mode)
       (record {
-        further = 0;
-        some = some;
-        numbers = trimmed-numbers (normalLookahead + lookaheadOffset g) l (scoredPairs g c 0) all;
-        front = λ h. number-at (rule7 g l) 0 ∙ w .front some h;
+        pairs = record {
+          later = 0;
+          some = some;
+          numbers = trimmed-numbers (normalLookahead + lookaheadOffset g) l (scoredPairs g c 0) all;
+          front = number-at (rule7 g l) 0 ∙ w .front some more;
+        };
+        live = λ h. refl;
       })
 
 -- ---- a later call
 
-module _ (c : Call) (s : View) (d : Call) (e : stateFault s ≡ 0) (q : stepFault s d ≡ 0) (w : Numbered (s .settings) c s) where
+module _ (c : Call) (n : ℕ) (s : View) (d : Call) (e : stateFault s ≡ 0) (q : stepFault s d ≡ 0) (w : Held (s .settings) c n s) where
   abbrev g : Settings
   g = s .settings
 
+  abbrev v : NewestPairs g c n s
+  v = w .pairs
+
   abbrev ps : List ℕ
-  ps = scoredPairs g c (w .further)
+  ps = scoredPairs g c (v .later)
 
   f : Fine s d
   f = fine s d q
@@ -123,45 +135,56 @@ module _ (c : Call) (s : View) (d : Call) (e : stateFault s ≡ 0) (q : stepFaul
   -- the pair that rule 5 scores is the next one
   next-pair : lookaheadOffset g < d .setLength → d .number + s .offset ≡ suc (getD ps 0 0)
   next-pair more =
-      let last = f .state .called (w .some) in
-      let here : getD (numbersOf (s .entries)) 0 0 ≡ getD ps 0 0 = rw (w .numbers) (getD-take (length (s .entries)) ps 0 0 (w .some)) in
-      omega (arith, here, w .front (omega (arith, f .shrinks last)), f .inTurn last, f .begun)
+      let last = f .state .called (v .some) in
+      let here : getD (numbersOf (s .entries)) 0 0 ≡ getD ps 0 0 = rw (v .numbers) (getD-take (length (s .entries)) ps 0 0 (v .some)) in
+      omega (arith, here, v .front, w .live (omega (arith, f .shrinks last)), f .inTurn last, f .begun)
+
+  filled : eqb (length (s .entries)) 0 ≡ false
+  filled = ne-eqb (length (s .entries)) 0 (λ z. omega (arith, v .some))
 
   -- what rules 4 and 5 leave
   went : lookaheadOffset g < d .setLength → (b : Bool) → ltb (s .offset + 1) (d .setLength) ≡ b → let l = progressOf s d .entries in
-      numbersOf l ≡ take (length l) (scoredPairs g c (cond b (suc (w .further)) (w .further)))
+      numbersOf l ≡ take (length l) (scoredPairs g c (cond b (suc (v .later)) (v .later)))
   went more true t =
-      let filled : eqb (length (s .entries)) 0 ≡ false = ne-eqb (length (s .entries)) 0 (λ z. omega (arith, w .some)) in
       let m = againOf false (itemOf s d (s .offset)) in
-      let n = score-long (fastThreshold g) (s .offset) (d .number + s .offset) m (s .entries) (isFast g) in
+      let k = score-long (fastThreshold g) (s .offset) (d .number + s .offset) m (s .entries) (isFast g) in
       let ns = numbers-scored (isFast g) (fastThreshold g) (s .offset) (d .number + s .offset) m (s .entries) in
-      rw (filled, t, n, pairs-next g c (w .further), ← next-pair more) (ns ∙ ap (λ (l : List ℕ). (d .number + s .offset) ∷ l) (w .numbers))
-  went more false t =
-      let filled : eqb (length (s .entries)) 0 ≡ false = ne-eqb (length (s .entries)) 0 (λ z. omega (arith, w .some)) in
-      rw (filled, t) (w .numbers)
+      rw (filled, t, k, pairs-next g c (v .later), ← next-pair more) (ns ∙ ap (λ (l : List ℕ). (d .number + s .offset) ∷ l) (v .numbers))
+  went more false t = rw (filled, t) (v .numbers)
 
-  next-numbered : isNone g ≡ false → Numbered g c (stepOf s d .state)
-  next-numbered mode = step-cases s d (λ o. Numbered g c (o .state)) (λ h. absurd (h q)) bare scored
+  -- the last call that scored
+  abbrev scoring : ℕ
+  scoring = cond (ltb (lookaheadOffset g) (d .setLength)) (d .number) n
+
+  next-numbered : isNone g ≡ false → Held g c scoring (stepOf s d .state)
+  next-numbered mode = step-cases s d (λ o. Held g c scoring (o .state)) (λ h. absurd (h q)) bare scored
     where
-      bare : stepFault s d ≡ 0 → (cut : Bool) → (lookaheadOffset g < d .setLength → isNone g ≡ true) → Numbered g c (bareOf s (d .setLength) (d .number) cut .state)
-      bare z cut i = record {
-        further = w .further;
-        some = w .some;
-        numbers = w .numbers;
-        front = λ h. absurd (true≢false (sym (i h) ∙ mode));
-      }
-
-      scored : stepFault s d ≡ 0 → lookaheadOffset g < d .setLength → isNone g ≡ false → Numbered g c (scoredOf s d (progressOf s d) .state)
-      scored z more n =
-          let b = ltb (s .offset + 1) (d .setLength) in
-          let some = scored-some s d q more mode in
-          let v = well _ (scored-passes s d e q more mode) in
-          record {
-            further = cond b (suc (w .further)) (w .further);
-            some = some;
-            numbers = trimmed-numbers (normalLookahead + lookaheadOffset g) (progressOf s d .entries) (scoredPairs g c (cond b (suc (w .further)) (w .further))) (went more b refl);
-            front = λ h. number-at (rule7 g (progressOf s d .entries)) 0 ∙ v .front some h;
+      bare : stepFault s d ≡ 0 → (cut : Bool) → (lookaheadOffset g < d .setLength → isNone g ≡ true) → Held g c scoring (bareOf s (d .setLength) (d .number) cut .state)
+      bare z cut i = by (ltb (lookaheadOffset g) (d .setLength)) refl
+        where
+          by : (b : Bool) → ltb (lookaheadOffset g) (d .setLength) ≡ b → Held g c (cond b (d .number) n) (bareOf s (d .setLength) (d .number) cut .state)
+          by true t = absurd (true≢false (sym (i (ltb-true _ _ t)) ∙ mode))
+          by false t = record {
+            pairs = record { later = v .later; some = v .some; numbers = v .numbers; front = v .front };
+            live = λ h. absurd (true≢false (sym (i h) ∙ mode));
           }
+
+      scored : stepFault s d ≡ 0 → lookaheadOffset g < d .setLength → isNone g ≡ false → Held g c scoring (scoredOf s d (progressOf s d) .state)
+      scored z more m =
+          let b = ltb (s .offset + 1) (d .setLength) in
+          let later = cond b (suc (v .later)) (v .later) in
+          let some = scored-some s d q more mode in
+          let u = well _ (scored-passes s d e q more mode) in
+          rw (lt-ltb (lookaheadOffset g) (d .setLength) more)
+          (record {
+            pairs = record {
+              later = later;
+              some = some;
+              numbers = trimmed-numbers (normalLookahead + lookaheadOffset g) (progressOf s d .entries) (scoredPairs g c later) (went more b refl);
+              front = number-at (rule7 g (progressOf s d .entries)) 0 ∙ u .front some more;
+            };
+            live = λ h. refl;
+          })
 
 -- ---- no call scores
 
@@ -186,15 +209,16 @@ next-quiet s c q w =
 
 -- ---- runs
 
-numbered-after : (c : Call) (s : View) (cs : List Call) → stateFault s ≡ 0 → isNone (s .settings) ≡ false → allAccepted s cs ≡ true
-    → Numbered (s .settings) c s → Numbered (s .settings) c (stateAfter s cs)
+numbered-after : (c : Call) (n : ℕ) (s : View) (cs : List Call) → stateFault s ≡ 0 → isNone (s .settings) ≡ false → allAccepted s cs ≡ true
+    → Held (s .settings) c n s → NewestPairs (s .settings) c (lastScoring (s .settings) n cs) (stateAfter s cs)
 unfolding stateAfter allAccepted
-numbered-after c s [] e mode a w = w
-numbered-after c s (d ∷ cs) e mode a w =
+numbered-after c n s [] e mode a w = w .pairs
+numbered-after c n s (d ∷ cs) e mode a w =
     let p = and-both (eqb (stepFault s d) 0) _ a in
     let q = eqb-true (stepFault s d) 0 (p .0) in
     let kept = settings-kept s d in
-    rw kept at (numbered-after c (stepOf s d .state) cs (step-passes s d e) (rw kept mode) (p .1) (rw kept (next-numbered c s d e q w mode)))
+    let more = scoring c n s d e q w in
+    rw kept at (numbered-after c more (stepOf s d .state) cs (step-passes s d e) (rw kept mode) (p .1) (rw kept (next-numbered c n s d e q w mode)))
 
 quiet-after : (s : View) (cs : List Call) → allAccepted s cs ≡ true → Quiet s → stateAfter s cs .entries ≡ []
 unfolding stateAfter allAccepted
@@ -213,10 +237,11 @@ reached-numbered g (c ∷ cs) e a =
     let q = eqb-true (stepFault (freshView g) c) 0 (p .0) in
     let kept = settings-kept (freshView g) c in (
       λ t.
-          let u = and-both (not (isNone g)) _ t in
-          let mode = not-true (isNone g) (u .0) in
-          rw kept at (numbered-after c s cs (step-passes (freshView g) c (fresh-passes g e)) (rw kept mode) (p .1) (rw kept (first-numbered g c q (ltb-true _ _ (u .1)) mode e))),
-      λ t. quiet-after s cs (p .1) (first-quiet g c q (λ more. not-false (isNone g) (and-left (not (isNone g)) _ t (lt-ltb _ _ more)))),
+          let u = and-both (ltb (lookaheadOffset g) (c .setLength)) _ t in
+          let mode = not-true (isNone g) (u .1) in
+          let first = first-numbered g c q (ltb-true _ _ (u .0)) mode e in
+          rw kept at (numbered-after c (c .number) s cs (step-passes (freshView g) c (fresh-passes g e)) (rw kept mode) (p .1) (rw kept first)),
+      λ t. quiet-after s cs (p .1) (first-quiet g c q (λ more. not-false (isNone g) (and-right (ltb (lookaheadOffset g) (c .setLength)) _ t (lt-ltb _ _ more)))),
     )
 
 -- and every history of a detector that keeps to the definitions

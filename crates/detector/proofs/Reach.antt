@@ -160,9 +160,6 @@ module _ (s : View) (c : Call) (e : stateFault s ≡ 0) where
   pub scored-passes : stepFault s c ≡ 0 → lookaheadOffset (s .settings) < c .setLength → isNone (s .settings) ≡ false → stateFault (scoredOf s c (progressOf s c) .state) ≡ 0
   scored-passes q l m = kept s (c .setLength) (c .number) (progressOf s c) (well s e .settled) (fine s c q .begun) m (good s c (fine s c q) l m)
 
-  pub accepted-passes : stepFault s c ≡ 0 → stateFault (acceptedOf s c .state) ≡ 0
-  accepted-passes q = accepted-cases s c (λ o. stateFault (o .state) ≡ 0) (bare-passes q) (scored-passes q)
-
   pub step-passes : stateFault (stepOf s c .state) ≡ 0
   step-passes = step-cases s c (λ o. stateFault (o .state) ≡ 0) (λ h. e) bare-passes scored-passes
 
