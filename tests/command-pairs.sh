@@ -175,3 +175,10 @@ verdict "--dump, a film that breaks off" $?
 command_run decide "$flat" --dump --csv --first 4294967290
 [ "$status" = 1 ] && grep -q '^4294967295,0,0,4294967300,' "$room/out" && grep -q '^4294967295,0,5,4294967295,0,0,0,0,18,1$' "$room/out"
 verdict "--dump, pairs past 2^32" $?
+
+# For people a number from 100,000 on is whole as long as the column holds it, so that the columns stay where they are.
+printf '%s\n' 99999.4 99999.6 149990 999999999 1e9 > "$room/large.costs"
+command_run decide "$six" --mode standard --inter "$room/large.costs" --dump
+printf '%s\n' 1e+09 1e+09 999999999 149990 100000 99999 > "$expected"
+awk '$1 == "entry" { print $3 } $1 == ">" { print $4 }' "$room/out" | cmp -s - "$expected"
+verdict "large costs are whole where they fit" $?

@@ -3,7 +3,8 @@
 #include <inttypes.h>
 #include <stdio.h>
 
-/* By the places of enum brine_double. The widths are for people: with a pair and a release number a line stays below 80 letters. */
+/* By the places of enum brine_double. The widths are for people: with a pair and a release number a line has 78 letters. The largest
+   double alone, which a backward cost can be, is longer than its column. */
 static const struct {
     const char *name;
     int width;
@@ -22,11 +23,14 @@ void columns_head(struct page *page, bool csv)
     columns_names(page, csv);
 }
 
-/* For people five digits will do. A NaN has a sign on some machines, which says nothing. */
+/* For people five digits will do; a number that would need an exponent is whole as long as the columns hold it. A NaN has a sign on
+   some machines, which says nothing. */
 static void score_text(char out[NUMBER_ROOM], bool csv, double value)
 {
     if (csv || value != value)
         number_text(out, value);
+    else if (value >= 99999.5 && value < 999999999.5)
+        snprintf(out, NUMBER_ROOM, "%.0f", value);
     else
         snprintf(out, NUMBER_ROOM, "%.5g", value);
 }

@@ -26,10 +26,10 @@ struct verdict {
     bool scored; /* whether there is a score */
     double score[BRINE_SCORE_DOUBLES];
     uint64_t scored_pair; /* the number of the score's pair: the frame's, or the next one's */
-    uint64_t release; /* frames numbered below may be purged */
-    bool measured;    /* whether there is a measure of this frame and the one before it; it need not be the score's */
+    uint64_t release;     /* frames numbered below may be purged */
+    bool measured;        /* whether there is a measure of this frame and the one before it; it need not be the score's */
     struct pair pair;
-    bool large; /* no cut, and yet the inter cost of this pair reaches its threshold */
+    bool large;                /* no cut, and yet the inter cost of this pair reaches its threshold */
     const struct state *state; /* after the call. It is the driver's own: only while the verdict is taken */
 };
 

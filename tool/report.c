@@ -26,8 +26,8 @@ struct behind {
     const char *pair, *release, *large, *time, *purge;
 };
 
-/* For people the pair stands beside its score. For machines it stands where it moves no other column: a reader may count them, and
-   finds the purge as the last one. */
+/* For people the pair stands beside its score. For machines it stands behind the columns that a reader may count, and the purge stays
+   the last one. */
 static void end_line(struct report *report, const struct behind *texts)
 {
     const struct options *options = report->options;
