@@ -180,5 +180,5 @@ verdict "--dump, pairs past 2^32" $?
 printf '%s\n' 99999.4 99999.6 149990 999999999 1e9 > "$room/large.costs"
 command_run decide "$six" --mode standard --inter "$room/large.costs" --dump
 printf '%s\n' 1e+09 1e+09 999999999 149990 100000 99999 > "$expected"
-awk '$1 == "entry" { print $3 } $1 == ">" { print $4 }' "$room/out" | cmp -s - "$expected"
+sed -n '4,9s/^..entry *[0-9]* *\([^ ]*\).*/\1/p' "$room/out" | cmp -s - "$expected"
 verdict "large costs are whole where they fit" $?
