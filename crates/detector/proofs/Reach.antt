@@ -28,10 +28,10 @@ use Rattle.state.specs.Refusals.{stateFault, stepFault}
 use Rattle.state.proofs.Well.{Well, well, passes}
 use Rattle.state.proofs.Fine.{Fine, fine, settings-refused}
 use Rattle.detector.specs.Rules.{Turn, againOf, rule4, rule5, rule7, nextOf}
-use Rattle.detector.specs.Step.{Verdict, Outcome, itemOf, progressOf, bareOf, scoredOf, acceptedOf, stepOf}
+use Rattle.detector.specs.Step.{Verdict, Outcome, itemOf, progressOf, bareOf, scoredOf, stepOf}
 use Rattle.detector.specs.Fresh.{freshView}
 use Rattle.detector.specs.Runs.{next, thenStep, runOf}
-use Rattle.detector.proofs.Cases.{accepted-cases, step-cases}
+use Rattle.detector.proofs.Cases.{step-cases}
 use Rattle.detector.proofs.Begins.{Begun, item-sound, begun}
 use Rattle.detector.proofs.Items.{again-sound}
 

@@ -1,17 +1,16 @@
 // The pair numbers of a deque: from front to back they fall by one, save where a first set's repeat stands.
 ghost use mathlib.Core.Path.{_≡_};
-ghost use Prim.Native.Nat.{_≤_};
-ghost use Rattle.settings.specs.Settings.{room};
 ghost use Rattle.score.specs.Deque.{content};
 ghost use Rattle.score.specs.Numbers.{misnumbered};
 use super::ScoreDeque;
+use settings::Settings;
 
-// What `is_misnumbered` says, of a deque whose count is its entries'. Nothing is added to a number: it may be the largest of its type.
-fn any_misnumbered(d: ScoreDeque) -> bool
-    requires { ⌜ d .count ≤ room ⌝ }
+// Whether two neighbours' numbers neither fall by one nor are equal, or more than one pair of neighbours is equal. Nothing is added to a
+// number: it may be the largest of its type.
+pub fn is_misnumbered(d: ScoreDeque) -> bool
     ensures { λ r. ⌜ r ≡ misnumbered (content d) ⌝ }
 {
-    let count = d.count;
+    let count = sums::lesser(d.count, Settings::ROOM);
     let mut equal: usize = 0;
     let mut i = 1;
     while i < count {
@@ -30,12 +29,4 @@ fn any_misnumbered(d: ScoreDeque) -> bool
         i += 1;
     }
     1 < equal
-}
-
-// Whether two neighbours' numbers neither fall by one nor are equal, or more than one pair of neighbours is equal.
-pub fn is_misnumbered(d: ScoreDeque) -> bool
-    ensures { λ r. ⌜ r ≡ misnumbered (content d) ⌝ }
-{
-    let e = d.within();
-    any_misnumbered(e)
 }
