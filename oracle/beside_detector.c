@@ -8,7 +8,7 @@
 
 enum { ENTRY = BRINE_SCORE_DOUBLES };
 
-uint64_t calls, scored, cuts, ruled, fresh, films, film_frames;
+uint64_t calls, scored, cuts, ruled, numbered, repeated, fresh, films, film_frames;
 /* The state as it should be: what the port has written so far, as the crate says. */
 static uint64_t numbers[BRINE_NUMBERS];
 static double scores[BRINE_SCORES];
@@ -35,6 +35,20 @@ void detector_state(void)
     memcpy(scores, reals(&len), sizeof scores);
 }
 
+/* The pair numbers from one on are as they were before the call. */
+static int pairs_stay(const uint64_t *lent, size_t from)
+{
+    return memcmp(lent + BRINE_PAIRS + from, numbers + BRINE_PAIRS + from, (BRINE_ENTRIES - from) * sizeof *numbers) == 0;
+}
+
+/* Whether two of so many pair numbers that stand side by side are equal. */
+static int has_equal(const uint64_t *pairs, size_t count)
+{
+    for (size_t k = 1; k < count; k++)
+        if (pairs[k - 1] == pairs[k]) return 1;
+    return 0;
+}
+
 void detector_fresh(void)
 {
     const uint64_t *n = words(7);
@@ -46,10 +60,11 @@ void detector_fresh(void)
     double *places = lend(SCORES, wide_scores, scores_len * sizeof *scores, 8);
     int64_t got = brine_detector_fresh(n[0], n[1], (uint32_t)n[2], n[3], (uint32_t)n[4], n[5], n[6], lent, numbers_len, places,
                                        scores_len);
+    /* No pair number is written: there is no score yet. */
+    int ok = due == got && (due != 0 || pairs_stay(lent, 0));
     if (due == 0) memcpy(numbers, after, sizeof numbers);
     fresh += due == 0;
-    verdict(due == got && holds(NUMBERS, due == 0 ? numbers : wide_numbers) && holds(SCORES, wide_scores), "fresh detector",
-            due, got);
+    verdict(ok && holds(NUMBERS, due == 0 ? numbers : wide_numbers) && holds(SCORES, wide_scores), "fresh detector", due, got);
 }
 
 struct list {
@@ -93,12 +108,16 @@ void detector_step(void)
         const uint64_t *after = words(BRINE_NUMBERS);
         const double *entries = reals(&len);
         ok = ok && memcmp(lent, after, sizeof numbers) == 0 && entries_as(places, entries, len / ENTRY);
+        /* Pair numbers are written up to the count, and without a score none is. */
+        ok = ok && pairs_stay(lent, due >= 2 ? len / ENTRY : 0);
         const double *score = reals(&score_len);
         for (size_t i = 0; ok && i < score_len; i++) ok = same(places[lent[BRINE_OFFSET] * ENTRY + i], score[i]);
         memcpy(numbers, after, sizeof numbers);
         memcpy(scores, entries, len * sizeof *scores);
         calls++;
         scored += due >= 2;
+        numbered += due >= 2 ? numbers[BRINE_COUNT] : 0;
+        repeated += due >= 2 && has_equal(numbers + BRINE_PAIRS, numbers[BRINE_COUNT]);
         cuts += (uint64_t)due & 1;
         ruled += due == 3 && frame - previous < numbers[BRINE_MAX];
     }
