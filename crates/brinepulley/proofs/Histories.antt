@@ -31,7 +31,7 @@ negated (suc f) h = refl
 pub told : (s : View) (c : Call) → notNegative (coded (decided (stepOf s c .answer))) ≡ eqb (stepFault s c) 0
 told s c =
     step-cases s c (λ o. notNegative (coded (decided (o .answer))) ≡ eqb (stepFault s c) 0)
-    (λ h. negated (stepFault s c) h ∙ sym (ne-eqb _ 0 h)) (λ e cut. sym (eq-eqb _ 0 e)) (λ e l m. sym (eq-eqb _ 0 e))
+    (λ h. negated (stepFault s c) h ∙ sym (ne-eqb _ 0 h)) (λ e cut i. sym (eq-eqb _ 0 e)) (λ e l m. sym (eq-eqb _ 0 e))
 
 -- 0 comes back where no refusal applies
 pub accepted : (f : ℕ) → pos 0 ≡ coded (done f) → 0 ≡ f

@@ -5,7 +5,7 @@ use mathlib.Core.Path.{_≡_, refl, _∙_}
 use mathlib.Core.Bool.{Bool, true, false}
 use Prim.Native.Nat.{ℕ, _-_, _<_}
 use native.Mathlib.Omega.{arith}
-use borrow.Author.Tests.{eq-eqb, ne-eqb, eqb-true, eqb-false, leb-false, lt-leb}
+use borrow.Author.Tests.{eq-eqb, ne-eqb, eqb-true, eqb-false, leb-true, leb-false, lt-leb}
 use lib.Dec.{eqb, leb}
 use lib.ListN.{length}
 use Rattle.answer.specs.Answer.{Answer, gives, refused}
@@ -43,18 +43,19 @@ module _ (s : View) (c : Call) where
   step-scored e h m = step-accepted e ∙ goes-on (lt-leb _ _ h) m
 
   module _ (P : Outcome → Type 0) where
-    pub accepted-cases : ((cut : Bool) → P (bareOf s (c .setLength) (c .number) cut))
+    -- without a score the set has no more than A frames, or the mode is None
+    pub accepted-cases : ((cut : Bool) → (lookaheadOffset (s .settings) < c .setLength → isNone (s .settings) ≡ true) → P (bareOf s (c .setLength) (c .number) cut))
         → (lookaheadOffset (s .settings) < c .setLength → isNone (s .settings) ≡ false → P (scoredOf s c (progressOf s c)))
         → P (acceptedOf s c)
     accepted-cases bare scored = by (leb (c .setLength) (lookaheadOffset (s .settings))) (isNone (s .settings)) refl refl
       where
         by : (x y : Bool) → leb (c .setLength) (lookaheadOffset (s .settings)) ≡ x → isNone (s .settings) ≡ y → P (acceptedOf s c)
-        by true y p q = rw (stays p) (bare false)
-        by false true p q = rw (silent p q) (bare _)
+        by true y p q = rw (stays p) (bare false (λ l. absurd (omega (arith, leb-true (c .setLength) (lookaheadOffset (s .settings)) p))))
+        by false true p q = rw (silent p q) (bare _ (λ l. q))
         by false false p q = rw (goes-on p q) (scored (leb-false _ _ p) q)
 
     pub step-cases : ((stepFault s c ≡ 0 → ⊥) → P (record { answer = refused (stepFault s c); state = s }))
-        → (stepFault s c ≡ 0 → (cut : Bool) → P (bareOf s (c .setLength) (c .number) cut))
+        → (stepFault s c ≡ 0 → (cut : Bool) → (lookaheadOffset (s .settings) < c .setLength → isNone (s .settings) ≡ true) → P (bareOf s (c .setLength) (c .number) cut))
         → (stepFault s c ≡ 0 → lookaheadOffset (s .settings) < c .setLength → isNone (s .settings) ≡ false → P (scoredOf s c (progressOf s c)))
         → P (stepOf s c)
     step-cases none bare scored = by (eqb (stepFault s c) 0) refl
@@ -77,7 +78,7 @@ module _ (s : View) (c : Call) where
   pub accepted-leaves : Leaves s c (acceptedOf s c)
   accepted-leaves =
       accepted-cases s c (Leaves s c)
-      (λ cut. record { decided = refl; settings = refl; counted = refl; number = refl; size = refl; first = refl; release = refl })
+      (λ cut i. record { decided = refl; settings = refl; counted = refl; number = refl; size = refl; first = refl; release = refl })
       (λ l m. record { decided = refl; settings = refl; counted = refl; number = refl; size = refl; first = refl; release = refl })
 
   pub leaves : stepFault s c ≡ 0 → Leaves s c (stepOf s c)
@@ -86,7 +87,7 @@ module _ (s : View) (c : Call) where
   -- a call that is decided is not refused
   pub decided-accepted : (v : Verdict) → stepOf s c .answer ≡ gives v → stepFault s c ≡ 0
   decided-accepted v =
-      step-cases s c (λ o. o .answer ≡ gives v → stepFault s c ≡ 0) (λ f h. absurd (clash _ h)) (λ e cut h. e) (λ e l m h. e)
+      step-cases s c (λ o. o .answer ≡ gives v → stepFault s c ≡ 0) (λ f h. absurd (clash _ h)) (λ e cut i h. e) (λ e l m h. e)
     where
       clash : (f : ℕ) → _≡_ {A = Answer Verdict} (refused f) (gives v) → ⊥
       clash f k = let z : _≡_ {A = ℕ} 0 1 = cc in omega arith

@@ -74,7 +74,7 @@ module _ (D : Detector) (S : Shows D) where
 -- an answer is a decision just where no refusal applies
 pub decided-is : (s : View) (c : Call) → not (isRefused (stepOf s c .answer)) ≡ eqb (stepFault s c) 0
 decided-is s c =
-    step-cases s c (λ o. not (isRefused (o .answer)) ≡ eqb (stepFault s c) 0) (λ h. sym (ne-eqb _ 0 h)) (λ e cut. sym (eq-eqb _ 0 e))
+    step-cases s c (λ o. not (isRefused (o .answer)) ≡ eqb (stepFault s c) 0) (λ h. sym (ne-eqb _ 0 h)) (λ e cut i. sym (eq-eqb _ 0 e))
     (λ e l m. sym (eq-eqb _ 0 e))
 
 abbrev pub value-shows : Shows byValue

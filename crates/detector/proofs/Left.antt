@@ -19,16 +19,16 @@ use Rattle.detector.proofs.Reach.{scoreIn, scored-passes}
 
 module _ (s : View) (c : Call) where
   pub settings-kept : stepOf s c .state .settings ≡ s .settings
-  settings-kept = step-cases s c (λ o. o .state .settings ≡ s .settings) (λ f. refl) (λ q cut. refl) (λ q l m. refl)
+  settings-kept = step-cases s c (λ o. o .state .settings ≡ s .settings) (λ f. refl) (λ q cut i. refl) (λ q l m. refl)
 
   pub entries-kept : scoreIn (stepOf s c .answer) ≡ none → stepOf s c .state .entries ≡ s .entries
-  entries-kept = step-cases s c (λ o. scoreIn (o .answer) ≡ none → o .state .entries ≡ s .entries) (λ f h. refl) (λ q cut h. refl) (λ q l m h. absurd (clash _ h))
+  entries-kept = step-cases s c (λ o. scoreIn (o .answer) ≡ none → o .state .entries ≡ s .entries) (λ f h. refl) (λ q cut i h. refl) (λ q l m h. absurd (clash _ h))
     where
       clash : (e : ScenecutResult) → _≡_ {A = Option ScenecutResult} (some e) none → ⊥
       clash e k = let z : _≡_ {A = ℕ} 0 1 = cc in omega arith
 
   pub entries-few : (v : Verdict) → stepOf s c .answer ≡ gives v → length (stepOf s c .state .entries) ≤ room
-  entries-few v = step-cases s c (λ o. o .answer ≡ gives v → length (o .state .entries) ≤ room) (λ f h. absurd (clash _ h)) (λ q cut h. few q) (λ q l m h. scored q l m)
+  entries-few v = step-cases s c (λ o. o .answer ≡ gives v → length (o .state .entries) ≤ room) (λ f h. absurd (clash _ h)) (λ q cut i h. few q) (λ q l m h. scored q l m)
     where
       clash : (f : ℕ) → _≡_ {A = Answer Verdict} (refused f) (gives v) → ⊥
       clash f k = let z : _≡_ {A = ℕ} 0 1 = cc in omega arith

@@ -10,8 +10,8 @@ use native.Mathlib.Omega.{arith}
 use borrow.Author.Tests.{eqb-false, not-false}
 use lib.Dec.{eqb}
 use lib.Ieee.{Float, nan}
-use lib.ListN.{length, take, drop, getD, length-append, length-drop, length-take}
-use lib.Seq.{getD-take, getD-drop}
+use lib.ListN.{length, take, drop, getD, set, length-drop, length-take}
+use lib.Seq.{getD-take, getD-drop, length-take-le}
 use Rattle.answer.specs.Answer.{Answer, gives, refused}
 use Rattle.answer.specs.Refusal.{refusal}
 use Rattle.answer.proofs.Laws.{or-none, passed, lent-written}
@@ -33,10 +33,11 @@ use Rattle.detector.proofs.Reach.{fresh-passes, step-passes}
 use Rattle.detector.proofs.Unique.{answerBy, answer-only}
 use Rattle.detector.proofs.Histories.{Shows, decided-is}
 use Rattle.detector.proofs.Makes.{Makes, answer-back}
-use Rattle.lent.specs.Places.{offsetPlace, countPlace, settingsLong, numbersLong, scoreLong, scoresLong, isState, frontScore, scoresOf, stateOf, settingNumbers, callNumbers, doubles, placed}
-use Rattle.lent.specs.Lent.{freshFault, freshNumbers, lentStep, numbersAfter, scoresAfter}
-use Rattle.lent.specs.Histories.{Places, Leaves, byPlaces, numberAt, doubleAt, comparedNumbers, SamePlaces}
+use Rattle.lent.specs.Places.{offsetPlace, firstNumberPlace, releasePlace, countPlace, pairsPlace, numbersLong, scoreLong, scoresLong, isState, frontScore, scoresOf, stateOf, settingNumbers, callNumbers, doubles, placed}
+use Rattle.lent.specs.Lent.{freshFault, freshNumbers, lentStep, pairsBy, numbersAfter, scoresAfter}
+use Rattle.lent.specs.Histories.{Places, Leaves, byPlaces, numberAt, doubleAt, pairAt, comparedNumbers, SamePlaces}
 use Rattle.lent.proofs.Sizes.{both, state-long}
+use Rattle.lent.proofs.Numbers.{written, written-long, pairs-long}
 use Rattle.lent.proofs.Scores.{scores-long, score-at}
 use Rattle.lent.proofs.Placed.{stepped, carried, fresh-carried}
 
@@ -58,11 +59,14 @@ module _ (ns : List ℕ) (xs : List Float) (is : isState ns xs ≡ true) where
       → isState (numbersAfter (record { answer = a; state = s }) ns) (scoresAfter (record { answer = a; state = s }) xs) ≡ true
   still (refused f) s few = is
   still (gives v) s few =
-      let written = take settingsLong ns ++ callNumbers s in
-      let front : length written ≡ numbersLong
-      = omega (arith, length-append (take settingsLong ns) (callNumbers s), length-take settingsLong ns, long .0) in
-      both written (scoresAfter (record { answer = gives v; state = s }) xs) front (by (v .score))
+      let rest = pairsBy (v .score) s (drop pairsPlace ns) in
+      both (written ns s rest) (scoresAfter (record { answer = gives v; state = s }) xs)
+      (written-long ns s rest (long .0) (omega (arith, pairs (v .score), length-drop pairsPlace ns, long .0))) (by (v .score))
     where
+      pairs : (o : Option ScenecutResult) → length (pairsBy o s (drop pairsPlace ns)) ≡ length (drop pairsPlace ns)
+      pairs none = refl
+      pairs (some e) = pairs-long (s .entries) (drop pairsPlace ns) (omega (arith, few v refl, length-drop pairsPlace ns, long .0))
+
       by : (o : Option ScenecutResult)
           → length (scoresAfter (record { answer = gives (record { cut = v .cut; score = o }); state = s }) xs) ≡ scoresLong
       by none = long .1
@@ -114,8 +118,10 @@ fresh-sound g p b =
     let ns = b .0 in
     let none = or-none (refusal 11 (not (isState ns (p .scores)))) (settingsFault g) (sym (b .1)) in
     let was : isState ns (p .scores) ≡ true = not-false (isState ns (p .scores)) (passed 10 _ (none .0)) in
-    let written : p .numbers ≡ settingNumbers g ++ callNumbers (freshView g) = b .2 ∙ sym (lent-written (freshFault ns (p .scores) g) _ ns (b .1)) in
-    let is : isState (p .numbers) (p .scores) ≡ true = rw written (both (settingNumbers g ++ callNumbers (freshView g)) (p .scores) refl (state-long ns (p .scores) was .1)) in
+    let long = state-long ns (p .scores) was in
+    let fresh = settingNumbers g ++ callNumbers (freshView g) ++ drop pairsPlace ns in
+    let written : p .numbers ≡ fresh = b .2 ∙ sym (lent-written (freshFault ns (p .scores) g) fresh ns (b .1)) in
+    let is : isState (p .numbers) (p .scores) ≡ true = rw written (both fresh (p .scores) (omega (arith, length-drop pairsPlace ns, long .0)) (long .1)) in
     let shown : seen p ≡ freshView g = rw (b .2) (fresh-carried ns (p .scores) g (sym (b .1))) in
     ((is, rw shown (fresh-passes g (none .1))), shown, none .1)
 
@@ -160,33 +166,45 @@ numbers-shown : (p : Places) → Sound p → comparedNumbers p ≡ shown (compar
 unfolding table
 numbers-shown p w =
     let at : ℕ → ℕ = λ (k : ℕ). numberAt k p in
-    let ns = table numbersLong at in
-    let listed : p .numbers ≡ ns = is-table 0 numbersLong at (p .numbers) (state-long (p .numbers) (p .scores) (w .0) .0) (λ k h. refl) in
-    let same : comparedNumbers (record { numbers = ns; scores = p .scores }) ≡ shown (compared (seen p)) = refl in
-    ap (λ (l : List ℕ). comparedNumbers (record { numbers = l; scores = p .scores })) listed ∙ same
+    let front = take pairsPlace (p .numbers) in
+    let long : length front ≡ pairsPlace = length-take-le pairsPlace (p .numbers) (omega (arith, state-long (p .numbers) (p .scores) (w .0) .0)) in
+    let listed : front ≡ table pairsPlace at = is-table 0 pairsPlace at front long (λ k h. getD-take pairsPlace (p .numbers) k 0 h) in
+    let same : set (set (table pairsPlace at) firstNumberPlace 0) releasePlace 0 ≡ shown (compared (seen p)) = refl in
+    ap (λ (l : List ℕ). set (set l firstNumberPlace 0) releasePlace 0) listed ∙ same
 
 -- double j of the score that five doubles are
 doubleOf : ScenecutResult → ℕ → Float
 doubleOf x j = getD (doubles x) j nan
 
-double-front : (xs : List Float) (j : ℕ) → j < scoreLong → getD xs j nan ≡ doubleOf (frontScore xs) j
+double-front : (pair : ℕ) (xs : List Float) (j : ℕ) → j < scoreLong → getD xs j nan ≡ doubleOf (frontScore pair xs) j
 unfolding doubleOf
-double-front xs zero h = refl
-double-front xs (suc zero) h = refl
-double-front xs (suc (suc zero)) h = refl
-double-front xs (suc (suc (suc zero))) h = refl
-double-front xs (suc (suc (suc (suc zero)))) h = refl
-double-front xs (suc (suc (suc (suc (suc j))))) h = absurd (omega arith)
+double-front pair xs zero h = refl
+double-front pair xs (suc zero) h = refl
+double-front pair xs (suc (suc zero)) h = refl
+double-front pair xs (suc (suc (suc zero))) h = refl
+double-front pair xs (suc (suc (suc (suc zero)))) h = refl
+double-front pair xs (suc (suc (suc (suc (suc j))))) h = absurd (omega arith)
 
--- the doubles below the count are those of the entries
-double-seen : (p : Places) (k j : ℕ) → k < length (seen p .entries) → j < scoreLong → doubleAt k j p ≡ doubleOf (getD (seen p .entries) k noScore) j
-double-seen p k j h l =
-    let n = numberAt countPlace p in
-    let most = length-take n (scoresOf room (p .scores)) in
-    let all = scores-long room (p .scores) in
-    let e : getD (seen p .entries) k noScore ≡ frontScore (drop (k * scoreLong) (p .scores))
-    = getD-take n (scoresOf room (p .scores)) k noScore (omega arith) ∙ score-at room k (p .scores) (omega arith) in
-    sym (getD-drop (k * scoreLong) (p .scores) j nan) ∙ double-front (drop (k * scoreLong) (p .scores)) j l ∙ ap (λ (x : ScenecutResult). doubleOf x j) (sym e)
+-- the pair numbers and the doubles below the count are those of the entries
+module _ (p : Places) (k : ℕ) (h : k < length (seen p .entries)) where
+  score-seen : getD (seen p .entries) k noScore ≡ frontScore (pairAt k p) (drop (k * scoreLong) (p .scores))
+  score-seen =
+      let n = numberAt countPlace p in
+      let ps = drop pairsPlace (p .numbers) in
+      let most = length-take n (scoresOf room ps (p .scores)) in
+      let all = scores-long room ps (p .scores) in
+      getD-take n (scoresOf room ps (p .scores)) k noScore (omega arith)
+      ∙ score-at room k ps (p .scores) (omega arith)
+      ∙ rw (getD-drop pairsPlace (p .numbers) k 0)
+
+  pair-seen : pairAt k p ≡ getD (seen p .entries) k noScore .«pair_number»
+  pair-seen = ap (λ (x : ScenecutResult). x .«pair_number») (sym score-seen)
+
+  double-seen : (j : ℕ) → j < scoreLong → doubleAt k j p ≡ doubleOf (getD (seen p .entries) k noScore) j
+  double-seen j l =
+      sym (getD-drop (k * scoreLong) (p .scores) j nan)
+      ∙ double-front (pairAt k p) (drop (k * scoreLong) (p .scores)) j l
+      ∙ ap (λ (x : ScenecutResult). doubleOf x j) (sym score-seen)
 
 module _ (p q : Places) (w : Sound p) (u : Sound q) (e : compared (seen p) ≡ compared (seen q)) where
   entries-same : seen p .entries ≡ seen q .entries
@@ -198,22 +216,36 @@ module _ (p q : Places) (w : Sound p) (u : Sound q) (e : compared (seen p) ≡ c
       omega (
         arith,
         well (seen p) (w .1) .few,
-        length-take (numberAt countPlace p) (scoresOf room (p .scores)),
-        scores-long room (p .scores),
+        length-take (numberAt countPlace p) (scoresOf room (drop pairsPlace (p .numbers)) (p .scores)),
+        scores-long room (drop pairsPlace (p .numbers)) (p .scores),
       )
 
   same-double : (k j : ℕ) → k < numberAt countPlace p → j < scoreLong → doubleAt k j p ≡ doubleAt k j q
   same-double k j h l =
       let here : k < length (seen p .entries) = omega (arith, entries-counted) in
-      double-seen p k j here l
+      double-seen p k here j l
       ∙ ap (λ (es : List ScenecutResult). doubleOf (getD es k noScore) j) entries-same
-      ∙ sym (double-seen q k j (rw entries-same at here) l)
+      ∙ sym (double-seen q k (rw entries-same at here) j l)
+
+  same-pair : (k : ℕ) → k < numberAt countPlace p → pairAt k p ≡ pairAt k q
+  same-pair k h =
+      let here : k < length (seen p .entries) = omega (arith, entries-counted) in
+      pair-seen p k here
+      ∙ ap (λ (es : List ScenecutResult). getD es k noScore .«pair_number») entries-same
+      ∙ sym (pair-seen q k (rw entries-same at here))
+
+  -- the offset is the same, and lies below the count
+  same-offset : numberAt offsetPlace p ≡ numberAt offsetPlace q
+  same-offset = ap (λ (s : View). s .offset) e
+
+  offset-counted : 0 < numberAt countPlace p → numberAt offsetPlace p < numberAt countPlace p
+  offset-counted h = omega (arith, entries-counted, well (seen p) (w .1) .within (omega (arith, entries-counted)))
 
   pub same-places : SamePlaces p q
   same-places = record {
     numbers = numbers-shown p w ∙ ap shown e ∙ sym (numbers-shown q u);
+    pairs = same-pair;
     scores = same-double;
-    decided = λ j h l.
-        let o = well (seen p) (w .1) .within (omega (arith, entries-counted)) in
-        same-double (numberAt offsetPlace p) j (omega (arith, entries-counted)) l ∙ ap (λ (n : ℕ). doubleAt n j q) (ap (λ (s : View). s .offset) e);
+    decidedPair = λ h. same-pair (numberAt offsetPlace p) (offset-counted h) ∙ ap (λ (n : ℕ). pairAt n q) same-offset;
+    decided = λ j h l. same-double (numberAt offsetPlace p) j (offset-counted h) l ∙ ap (λ (n : ℕ). doubleAt n j q) same-offset;
   }

@@ -15,45 +15,26 @@ use Rattle.settings.specs.declared.Settings.{Settings}
 use Rattle.settings.specs.Settings.{room}
 use Rattle.score.specs.declared.ScenecutResult.{ScenecutResult}
 use Rattle.score.specs.Deque.{noScore}
+use Rattle.score.specs.Numbers.{numbersOf}
 use Rattle.state.specs.State.{View, Call}
 use Rattle.detector.specs.Fresh.{freshView}
 use Rattle.detector.specs.Step.{Verdict, Outcome, stepOf}
 use Rattle.detector.proofs.Cases.{decided-accepted, leaves}
 use Rattle.detector.proofs.Reach.{scoreIn, score-stands}
 use Rattle.detector.proofs.Left.{settings-kept, entries-kept, entries-few}
-use Rattle.lent.specs.Places.{numbersLong, settingsLong, scoreLong, isState, settingsOf, scoresOf, entriesOf, stateOf, settingNumbers, callNumbers, placed}
-use Rattle.lent.specs.Lent.{freshFault, freshNumbers, lentStep, numbersAfter, scoresAfter}
+use Rattle.lent.specs.Places.{numbersLong, settingsLong, callLong, pairsPlace, countPlace, scoreLong, isState, settingsOf, scoresOf, entriesOf, stateOf, settingNumbers, callNumbers, pairsPlaced, placed}
+use Rattle.lent.specs.Lent.{freshFault, freshNumbers, lentStep, pairsBy, numbersAfter, scoresAfter}
 use Rattle.lent.proofs.Sizes.{state-long}
+use Rattle.lent.proofs.Numbers.{written, same-settings, called, behind}
 use Rattle.lent.proofs.Scores.{take-least}
-
--- ---- the numbers
-
-module _ (ns : List ℕ) (s : View) (size : length ns ≡ numbersLong) where
-  abbrev written : List ℕ
-  written = take settingsLong ns ++ callNumbers s
-
-  front : length (take settingsLong ns) ≡ settingsLong
-  front = length-take-le settingsLong ns (omega arith)
-
-  -- the settings stay
-  kept : (i : ℕ) → i < settingsLong → getD written i 0 ≡ getD ns i 0
-  kept i h = List·getD-append (take settingsLong ns) (callNumbers s) 0 i (omega (arith, front)) ∙ getD-take settingsLong ns i 0 h
-
-  same-settings : settingsOf written ≡ settingsOf ns
-  same-settings =
-      rw (kept 0 (omega arith), kept 1 (omega arith), kept 2 (omega arith), kept 3 (omega arith), kept 4 (omega arith), kept 5 (omega arith), kept 6 (omega arith))
-
-  -- the others are the call's
-  called : (i : ℕ) → getD written (settingsLong + i) 0 ≡ getD (callNumbers s) i 0
-  called i = ap (λ (n : ℕ). getD written (n + i) 0) (sym front) ∙ getD-append-add (take settingsLong ns) (callNumbers s) i 0
 
 -- ---- the scores
 
-read-placed : (k : ℕ) (l : List ScenecutResult) (xs : List Float) → length l ≤ k → take (length l) (scoresOf k (placed l xs)) ≡ l
+read-placed : (k : ℕ) (l : List ScenecutResult) (rest : List ℕ) (xs : List Float) → length l ≤ k → take (length l) (scoresOf k (numbersOf l ++ rest) (placed l xs)) ≡ l
 unfolding scoresOf placed
-read-placed k [] xs h = refl
-read-placed zero (e ∷ l) xs h = absurd (omega arith)
-read-placed (suc k) (e ∷ l) xs h = ap (λ (r : List ScenecutResult). e ∷ r) (read-placed k l (drop scoreLong xs) (omega arith))
+read-placed k [] rest xs h = refl
+read-placed zero (e ∷ l) rest xs h = absurd (omega arith)
+read-placed (suc k) (e ∷ l) rest xs h = ap (λ (r : List ScenecutResult). e ∷ r) (read-placed k l rest (drop scoreLong xs) (omega arith))
 
 -- ---- the state
 
@@ -64,20 +45,28 @@ module _ (ns : List ℕ) (xs : List Float) (c : Call) (size : length ns ≡ numb
   abbrev after : View
   after = stepOf before c .state
 
-  entries-back : (v : Verdict) → stepOf before c .answer ≡ gives v → entriesOf (length (after .entries)) (scoresAfter (stepOf before c) xs) ≡ after .entries
-  entries-back v e = rw e (by (v .score) refl)
+  -- the pair numbers that it leaves
+  abbrev left : Verdict → List ℕ
+  left v = pairsBy (v .score) after (drop pairsPlace ns)
+
+  entries-back : (v : Verdict) → stepOf before c .answer ≡ gives v → entriesOf (length (after .entries)) (left v) (scoresAfter (record { answer = gives v; state = after }) xs) ≡ after .entries
+  entries-back v e = by (v .score) refl
     where
-      by : (o : Option ScenecutResult) → v .score ≡ o → entriesOf (length (after .entries)) (scoresAfter (record { answer = gives v; state = after }) xs) ≡ after .entries
-      by none h = rw (h, entries-kept before c (ap scoreIn e ∙ h)) (take-least (getD ns 12 0) (scoresOf room xs))
-      by (some x) h = rw h (read-placed room (after .entries) xs (entries-few before c v e))
+      by : (o : Option ScenecutResult) → v .score ≡ o → entriesOf (length (after .entries)) (left v) (scoresAfter (record { answer = gives v; state = after }) xs) ≡ after .entries
+      by none h =
+          rw (h, entries-kept before c (ap scoreIn e ∙ h)) (take-least (getD ns countPlace 0) (scoresOf room (drop pairsPlace ns) xs))
+      by (some x) h =
+          rw h (read-placed room (after .entries) (drop (length (after .entries)) (drop pairsPlace ns)) xs (entries-few before c v e))
 
   reads-back : (v : Verdict) → stepOf before c .answer ≡ gives v → stateOf (numbersAfter (stepOf before c) ns) (scoresAfter (stepOf before c) xs) ≡ after
   reads-back v e =
       let entries = entries-back v e in
-      let settings : settingsOf (written ns after size) ≡ after .settings = same-settings ns after size ∙ sym (settings-kept before c) in
-      let numbers : numbersAfter (stepOf before c) ns ≡ written ns after size = rw e in
+      let settings : settingsOf (written ns after (left v)) ≡ after .settings = same-settings ns after (left v) size ∙ sym (settings-kept before c) in
+      let numbers : numbersAfter (stepOf before c) ns ≡ written ns after (left v) = rw e in
+      let scores : scoresAfter (stepOf before c) xs ≡ scoresAfter (record { answer = gives v; state = after }) xs = rw e in
       let counted = leaves before c (decided-accepted before c v e) .counted in
-      rw (numbers, called ns after size 5, entries, called ns after size 0, called ns after size 1, called ns after size 2, called ns after size 3, called ns after size 4, settings, ← counted)
+      let call : (i : ℕ) → i < callLong → getD (written ns after (left v)) (settingsLong + i) 0 ≡ getD (callNumbers after) i 0 = called ns after (left v) size in
+      rw (numbers, scores, call 5 (omega arith), behind ns after (left v) size, entries, call 0 (omega arith), call 1 (omega arith), call 2 (omega arith), call 3 (omega arith), call 4 (omega arith), settings, ← counted)
 
 -- ---- the theorems
 
@@ -105,4 +94,5 @@ module _ (ns : List ℕ) (xs : List Float) (c : Call) (is : isState ns xs ≡ tr
 
 -- the numbers of a fresh detector hold a fresh state
 pub fresh-carried : (ns : List ℕ) (xs : List Float) (g : Settings) → freshFault ns xs g ≡ 0 → stateOf (freshNumbers ns xs g) xs ≡ freshView g
-fresh-carried ns xs g e = ap (λ (l : List ℕ). stateOf l xs) (sym (lent-written (freshFault ns xs g) (settingNumbers g ++ callNumbers (freshView g)) ns (sym e)))
+fresh-carried ns xs g e =
+    ap (λ (l : List ℕ). stateOf l xs) (sym (lent-written (freshFault ns xs g) (settingNumbers g ++ callNumbers (freshView g) ++ drop pairsPlace ns) ns (sym e)))

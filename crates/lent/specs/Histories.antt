@@ -3,14 +3,14 @@
 use mathlib.Core.Path.{_≡_}
 use mathlib.Core.List.{List}
 use Prim.Native.Nat.{ℕ, _+_, _*_, _<_}
-use lib.ListN.{getD, set}
+use lib.ListN.{take, getD, set}
 use lib.Ieee.{Float, nan}
 use Rattle.settings.specs.declared.Settings.{Settings}
 use Rattle.state.specs.State.{Call}
 use Rattle.detector.specs.declared.StepAnswer.{StepAnswer}
 use Rattle.detector.specs.Step.{stepAnswer}
 use Rattle.detector.specs.Histories.{Detector, byValue}
-use Rattle.lent.specs.Places.{scoreLong, offsetPlace, firstNumberPlace, releasePlace, countPlace}
+use Rattle.lent.specs.Places.{scoreLong, offsetPlace, firstNumberPlace, releasePlace, countPlace, pairsPlace}
 use Rattle.lent.specs.Lent.{freshFault, freshNumbers, lentStep, numbersAfter, scoresAfter}
 
 pub record Places : Type 0 where
@@ -44,12 +44,18 @@ numberAt i p = getD (p .numbers) i 0
 abbrev pub doubleAt : ℕ → ℕ → Places → Float
 doubleAt k j p = getD (p .scores) (k * scoreLong + j) nan
 
--- all numbers, with the first and the release number set to 0
-abbrev pub comparedNumbers : Places → List ℕ
-comparedNumbers p = set (set (p .numbers) firstNumberPlace 0) releasePlace 0
+-- the pair number of score k
+abbrev pub pairAt : ℕ → Places → ℕ
+pairAt k p = numberAt (pairsPlace + k) p
 
--- these numbers; all scores below the count; and the score at the offset, once there is one
+-- all numbers before the pair numbers, with the first and the release number set to 0
+abbrev pub comparedNumbers : Places → List ℕ
+comparedNumbers p = set (set (take pairsPlace (p .numbers)) firstNumberPlace 0) releasePlace 0
+
+-- these numbers; all pair numbers and all scores below the count; and the score at the offset with its pair number, once there is one
 pub record SamePlaces (p q : Places) : Type 0 where
   pub numbers : comparedNumbers p ≡ comparedNumbers q
+  pub pairs : (k : ℕ) → k < numberAt countPlace p → pairAt k p ≡ pairAt k q
   pub scores : (k j : ℕ) → k < numberAt countPlace p → j < scoreLong → doubleAt k j p ≡ doubleAt k j q
+  pub decidedPair : 0 < numberAt countPlace p → pairAt (numberAt offsetPlace p) p ≡ pairAt (numberAt offsetPlace q) q
   pub decided : (j : ℕ) → 0 < numberAt countPlace p → j < scoreLong → doubleAt (numberAt offsetPlace p) j p ≡ doubleAt (numberAt offsetPlace q) j q

@@ -1,4 +1,5 @@
--- The state as a recorder lends it: numbers, and doubles for each score that the deque has room for.
+-- The state as a recorder lends it: numbers, and doubles for each score that the deque has room for. A score's pair number is among the
+-- numbers, since a double cannot hold each of them.
 use mathlib.Core.List.{List, [], _∷_, _++_}
 use mathlib.Core.Bool.{Bool, _&&_}
 use Prim.Native.Nat.{ℕ, zero, suc, _+_, _*_}
@@ -9,6 +10,7 @@ use Rattle.settings.specs.declared.Settings.{Settings}
 use Rattle.settings.specs.Settings.{room}
 use Rattle.score.specs.declared.ScenecutResult.{ScenecutResult}
 use Rattle.score.specs.Deque.{scoreFrom}
+use Rattle.score.specs.Numbers.{numbersOf}
 use Rattle.state.specs.State.{View}
 
 -- ---- the sizes
@@ -21,8 +23,12 @@ settingsLong = 7
 abbrev pub callLong : ℕ
 callLong = 6
 
+-- then a pair number for each score
+abbrev pub pairsPlace : ℕ
+pairsPlace = settingsLong + callLong
+
 abbrev pub numbersLong : ℕ
-numbersLong = settingsLong + callLong
+numbersLong = pairsPlace + room
 
 -- a score's five doubles
 abbrev pub scoreLong : ℕ
@@ -35,7 +41,8 @@ scoresLong = room * scoreLong
 abbrev pub isState : List ℕ → List Float → Bool
 isState ns xs = eqb (length ns) numbersLong && eqb (length xs) scoresLong
 
--- ---- reading: width, height, depth, lookahead, mode, min, max, then offset, last number, last length, first number, release number, count
+-- ---- reading: width, height, depth, lookahead, mode, min, max, then offset, last number, last length, first number, release number, count,
+-- then the pair numbers
 
 abbrev pub settingsBy : ℕ → ℕ → ℕ → ℕ → ℕ → ℕ → ℕ → Settings
 settingsBy width height depth lookahead mode least most = record {
@@ -51,18 +58,18 @@ settingsBy width height depth lookahead mode least most = record {
 abbrev pub settingsOf : List ℕ → Settings
 settingsOf ns = settingsBy (getD ns 0 0) (getD ns 1 0) (getD ns 2 0) (getD ns 3 0) (getD ns 4 0) (getD ns 5 0) (getD ns 6 0)
 
--- the score that the first five doubles of a list are: inter, importance, backward, forward, threshold
-abbrev pub frontScore : List Float → ScenecutResult
-frontScore xs = scoreFrom (getD xs 0 nan) (getD xs 1 nan) (getD xs 2 nan) (getD xs 3 nan) (getD xs 4 nan)
+-- the score of a pair that the first five doubles of a list are: inter, importance, backward, forward, threshold
+abbrev pub frontScore : ℕ → List Float → ScenecutResult
+frontScore pair xs = scoreFrom pair (getD xs 0 nan) (getD xs 1 nan) (getD xs 2 nan) (getD xs 3 nan) (getD xs 4 nan)
 
--- the first k scores
-unfoldable pub scoresOf : ℕ → List Float → List ScenecutResult
-scoresOf zero xs = []
-scoresOf (suc k) xs = frontScore xs ∷ scoresOf k (drop scoreLong xs)
+-- the first k scores, by their pair numbers and doubles
+unfoldable pub scoresOf : ℕ → List ℕ → List Float → List ScenecutResult
+scoresOf zero ps xs = []
+scoresOf (suc k) ps xs = frontScore (getD ps 0 0) xs ∷ scoresOf k (drop 1 ps) (drop scoreLong xs)
 
 -- "slots past the count are no part of the state"
-abbrev pub entriesOf : ℕ → List Float → List ScenecutResult
-entriesOf count xs = take count (scoresOf room xs)
+abbrev pub entriesOf : ℕ → List ℕ → List Float → List ScenecutResult
+entriesOf count ps xs = take count (scoresOf room ps xs)
 
 -- the places of what a call may change
 abbrev pub offsetPlace : ℕ
@@ -86,7 +93,7 @@ countPlace = settingsLong + 5
 abbrev pub stateOf : List ℕ → List Float → View
 stateOf ns xs = record {
   settings = settingsOf ns;
-  entries = entriesOf (getD ns countPlace 0) xs;
+  entries = entriesOf (getD ns countPlace 0) (drop pairsPlace ns) xs;
   count = getD ns countPlace 0;
   offset = getD ns offsetPlace 0;
   lastNumber = getD ns lastNumberPlace 0;
@@ -104,6 +111,10 @@ settingNumbers g =
 -- what a call may change of the numbers
 abbrev pub callNumbers : View → List ℕ
 callNumbers s = s .offset ∷ s .lastNumber ∷ s .lastLength ∷ s .firstNumber ∷ s .release ∷ length (s .entries) ∷ []
+
+-- the entries' pair numbers in the first places; those past the count stay
+abbrev pub pairsPlaced : List ScenecutResult → List ℕ → List ℕ
+pairsPlaced l ps = numbersOf l ++ drop (length l) ps
 
 abbrev pub doubles : ScenecutResult → List Float
 doubles e =

@@ -6,7 +6,7 @@ ghost use lib.ListN.{length, take, drop};
 ghost use Rattle.score.specs.Deque.{content};
 ghost use Rattle.state.specs.State.{view, call};
 ghost use Rattle.detector.specs.Step.{stepAnswer, outcome};
-ghost use Rattle.lent.specs.Places.{numbersLong, settingsLong, scoreLong, scoresLong, settingsOf, frontScore, entriesOf, stateOf, settingNumbers, callNumbers, doubles, placed};
+ghost use Rattle.lent.specs.Places.{numbersLong, settingsLong, pairsPlace, scoreLong, scoresLong, settingsOf, frontScore, entriesOf, stateOf, settingNumbers, callNumbers, pairsPlaced, doubles, placed};
 ghost use Rattle.lent.specs.Lent.{freshFault, freshNumbers, lentStep, numbersAfter, scoresAfter};
 use detector::Decision;
 use detector::StepAnswer;
@@ -31,34 +31,38 @@ const RELEASE_NUMBER: usize = SETTINGS + 4;
 
 const COUNT: usize = SETTINGS + 5;
 
+// From here on there is a pair number for each score: a double cannot hold each of them.
+const PAIRS: usize = COUNT + 1;
+
 // How many numbers a state has, how many doubles a score, and how many doubles all scores.
-const NUMBERS: usize = COUNT + 1;
+const NUMBERS: usize = PAIRS + Settings::ROOM;
 
 const DOUBLES: usize = 5;
 
 const SCORES: usize = Settings::ROOM * DOUBLES;
 
-// The score that the first five doubles of a part are.
-fn front_score(s: &[f64]) -> ScenecutResult
+// The score of a pair that the first five doubles of a part are.
+fn front_score(pair: u64, s: &[f64]) -> ScenecutResult
     requires { ⌜ scoreLong ≤ length (now s) ⌝ }
-    ensures { λ r. ⌜ r ≡ frontScore (now (s .entry)) ⌝ }
+    ensures { λ r. ⌜ r ≡ frontScore pair (now (s .entry)) ⌝ }
 {
-    ScenecutResult::new(s[0], s[1], s[2], s[3], s[4])
+    ScenecutResult::new(pair, s[0], s[1], s[2], s[3], s[4])
 }
 
 // The deque whose entries are the first `count` scores: no place past them is read.
-fn lent_deque(scores: &[f64], count: usize) -> ScoreDeque
+fn lent_deque(numbers: &[u64], scores: &[f64], count: usize) -> ScoreDeque
+    requires { ⌜ length (now numbers) ≡ numbersLong ⌝ }
     requires { ⌜ length (now scores) ≡ scoresLong ⌝ }
-    ensures { λ r. ⌜ content r ≡ entriesOf count (now (scores .entry)) ⌝ }
+    ensures { λ r. ⌜ content r ≡ entriesOf count (drop pairsPlace (now (numbers .entry))) (now (scores .entry)) ⌝ }
     ensures { λ r. ⌜ r .count ≡ count ⌝ }
 {
-    let none = ScenecutResult::new(0.0, 0.0, 0.0, 0.0, 0.0);
+    let none = ScenecutResult::new(0, 0.0, 0.0, 0.0, 0.0, 0.0);
     let entries = [none; Settings::ROOM];
     let mut out = ScoreDeque { entries, count };
     let n = sums::lesser(count, Settings::ROOM);
     for i in 0..n {
         let at = i * DOUBLES;
-        let e = front_score(&scores[at..]);
+        let e = front_score(numbers[PAIRS + i], &scores[at..]);
         out.entries[i] = e;
     }
     out
@@ -85,7 +89,7 @@ fn lent_state(numbers: &[u64], scores: &[f64]) -> State
     ensures { λ r. ⌜ view r ≡ stateOf (now (numbers .entry)) (now (scores .entry)) ⌝ }
 {
     let g = lent_settings(numbers);
-    let d = lent_deque(scores, numbers[COUNT] as usize);
+    let d = lent_deque(numbers, scores, numbers[COUNT] as usize);
     State {
         settings: g,
         deque: d,
@@ -129,6 +133,18 @@ fn put_deque(scores: &mut [f64], d: ScoreDeque)
     }
 }
 
+// The entries' pair numbers, each in its place.
+fn put_pairs(numbers: &mut [u64], d: ScoreDeque)
+    requires { ⌜ length (now numbers) ≡ numbersLong ⌝ }
+    ensures { λ _. ⌜ now (numbers .exit) ≡ take pairsPlace (now (numbers .entry)) ++ pairsPlaced (content d) (drop pairsPlace (now (numbers .entry))) ⌝ }
+{
+    let n = entry_count(d);
+    for i in 0..n {
+        let pair = d.entries[i].pair_number;
+        numbers[PAIRS + i] = pair;
+    }
+}
+
 fn put_settings(numbers: &mut [u64], g: Settings)
     requires { ⌜ length (now numbers) ≡ numbersLong ⌝ }
     ensures { λ _. ⌜ now (numbers .exit) ≡ settingNumbers g ++ drop settingsLong (now (numbers .entry)) ⌝ }
@@ -145,7 +161,7 @@ fn put_settings(numbers: &mut [u64], g: Settings)
 // What a call changes of the numbers.
 fn put_call(numbers: &mut [u64], s: State)
     requires { ⌜ length (now numbers) ≡ numbersLong ⌝ }
-    ensures { λ _. ⌜ now (numbers .exit) ≡ take settingsLong (now (numbers .entry)) ++ callNumbers (view s) ⌝ }
+    ensures { λ _. ⌜ now (numbers .exit) ≡ take settingsLong (now (numbers .entry)) ++ callNumbers (view s) ++ drop pairsPlace (now (numbers .entry)) ⌝ }
 {
     let n = entry_count(s.deque);
     numbers[OFFSET] = s.offset as u64;
@@ -157,7 +173,7 @@ fn put_call(numbers: &mut [u64], s: State)
 }
 
 // A fresh detector in its lent places: 0, or the number of the refusal, and then nothing is written. It has no entry, so no
-// score is written.
+// score is written, and no pair number.
 pub fn fresh(g: Settings, numbers: &mut [u64], scores: &[f64]) -> u32
     ensures { λ r. ⌜ r ≡ freshFault (now (numbers .entry)) (now (scores .entry)) g ⌝ }
     ensures { λ _. ⌜ now (numbers .exit) ≡ freshNumbers (now (numbers .entry)) (now (scores .entry)) g ⌝ }
@@ -179,7 +195,7 @@ pub fn fresh(g: Settings, numbers: &mut [u64], scores: &[f64]) -> u32
     0
 }
 
-// What a step changed, back in its places: nothing where it was refused, and no score where it has none.
+// What a step changed, back in its places: nothing where it was refused, and neither scores nor pair numbers where it has no score.
 fn put_stepped(numbers: &mut [u64], scores: &mut [f64], r: Stepped) -> StepAnswer
     requires { ⌜ length (now numbers) ≡ numbersLong ⌝ }
     requires { ⌜ length (now scores) ≡ scoresLong ⌝ }
@@ -196,11 +212,13 @@ fn put_stepped(numbers: &mut [u64], scores: &mut [f64], r: Stepped) -> StepAnswe
     let Decision::Scored(_cut, _score) = d else {
         return answer;
     };
+    put_pairs(numbers, t.deque);
     put_deque(scores, t.deque);
     answer
 }
 
-// The step of a detector in its lent places. A refused call writes nothing, and a decision without a score no score.
+// The step of a detector in its lent places. A refused call writes nothing, and a decision without a score neither scores nor pair
+// numbers.
 pub fn step(
     numbers: &mut [u64],
     scores: &mut [f64],

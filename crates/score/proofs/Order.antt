@@ -3,9 +3,9 @@
 use mathlib.Core.Path.{_≡_, refl, sym}
 use mathlib.Core.Bool.{Bool, true, false, cond}
 use mathlib.Core.List.{List, [], _∷_}
-use Prim.Native.Nat.{ℕ, zero, suc, _+_, _≤_}
+use Prim.Native.Nat.{ℕ, zero, suc, _+_, _≤_, _<_}
 use native.Mathlib.Omega.{arith}
-use lib.ListN.{take}
+use lib.ListN.{length, take, getD}
 use Rattle.score.specs.Search.{anyOf, countOf}
 use Rattle.score.specs.Numbers.{neighbours, areEqual, areAstray}
 use Rattle.score.proofs.Counts.{any-none, none-of, none-taken, count-none, count-first, count-taken}
@@ -23,18 +23,23 @@ module _ (most : ℕ) where
   order-one x = record { falls = any-none areAstray; equals = omega (arith, count-none areEqual) }
 
   -- the next number in front
-  pub order-next : (x y : ℕ) (ns : List ℕ) → x ≡ suc y → InOrder most (y ∷ ns) → InOrder most (x ∷ y ∷ ns)
-  order-next x y ns e o =
-      let two = two-fall x y e in
+  pub order-next : (x : ℕ) (ns : List ℕ) → (0 < length ns → x ≡ suc (getD ns 0 0)) → InOrder most ns → InOrder most (x ∷ ns)
+  order-next x [] f o = order-one x
+  order-next x (y ∷ ns) f o =
+      let two = two-fall x y (f (omega arith)) in
       let n = rw (two .1) at (count-first areEqual (x, y) (neighbours (y ∷ ns))) in
       record { falls = none-of areAstray (x, y) (neighbours (y ∷ ns)) (two .0) (o .falls); equals = omega (arith, n, o .equals) }
 
   -- the front's number once more
-  pub order-again : (x y : ℕ) (ns : List ℕ) → x ≡ y → InOrder most (y ∷ ns) → InOrder (suc most) (x ∷ y ∷ ns)
-  order-again x y ns e o =
-      let two = two-equal x y e in
+  pub order-again : (x : ℕ) (ns : List ℕ) → (0 < length ns → x ≡ getD ns 0 0) → InOrder most ns → InOrder (suc most) (x ∷ ns)
+  order-again x [] f o = record { falls = any-none areAstray; equals = omega (arith, count-none areEqual) }
+  order-again x (y ∷ ns) f o =
+      let two = two-equal x y (f (omega arith)) in
       let n = rw (two .1) at (count-first areEqual (x, y) (neighbours (y ∷ ns))) in
       record { falls = none-of areAstray (x, y) (neighbours (y ∷ ns)) (two .0) (o .falls); equals = omega (arith, n, o .equals) }
+
+  pub order-more : (ns : List ℕ) → InOrder most ns → InOrder (suc most) ns
+  order-more ns o = record { falls = o .falls; equals = omega (arith, o .equals) }
 
   pub order-taken : (k : ℕ) (ns : List ℕ) → InOrder most ns → InOrder most (take k ns)
   order-taken zero ns o = order-none

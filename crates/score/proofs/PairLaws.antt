@@ -21,6 +21,10 @@ pub numbers-long : (l : List ScenecutResult) → length (numbersOf l) ≡ length
 numbers-long [] = refl
 numbers-long (e ∷ l) = ap suc (numbers-long l)
 
+pub no-numbers : (l : List ScenecutResult) → length l ≡ 0 → numbersOf l ≡ []
+no-numbers [] h = refl
+no-numbers (e ∷ l) h = absurd (omega arith)
+
 pub number-at : (l : List ScenecutResult) (i : ℕ) → getD (numbersOf l) i 0 ≡ getD l i noScore .«pair_number»
 number-at [] i = refl
 number-at (e ∷ l) zero = refl

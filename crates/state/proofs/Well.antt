@@ -4,7 +4,7 @@ use mathlib.Core.Path.{_≡_, ap}
 use mathlib.Core.Bool.{true, false, not}
 use Prim.Native.Nat.{_+_, _-_, _≤_, _<_}
 use native.Mathlib.Omega.{arith}
-use lib.Dec.{eqb, leb}
+use lib.Dec.{eqb, leb, ltb}
 use lib.ListN.{length, getD}
 use borrow.Author.Tests.{ltb-true, ltb-false, leb-false, lt-ltb, le-ltb, lt-leb, eq-eqb, ne-eqb, eqb-true, eqb-false, not-true}
 use Rattle.answer.proofs.Laws.{or-no, passed}
@@ -13,7 +13,7 @@ use Rattle.score.specs.Deque.{noScore}
 use Rattle.score.specs.Numbers.{numbersOf}
 use Rattle.score.proofs.Order.{InOrder}
 use Rattle.state.specs.State.{View}
-use Rattle.state.specs.Refusals.{settingsForbidden, overRoom, overWindow, offsetPast, offsetAstray, entriesInNone, entriesBeforeCall, unfit, costForbidden, numbersAstray, repeatedTwice, frontAstray, stateFault}
+use Rattle.state.specs.Refusals.{settingsForbidden, overRoom, overWindow, offsetPast, offsetAstray, entriesInNone, entriesBeforeCall, unfit, costForbidden, numbersAstray, repeatedTwice, misnumbered, frontAstray, stateFault}
 use Rattle.state.proofs.Tests.{and-right, and-left, not-both, not-two, not-eqb, positive}
 
 pub record Well (s : View) : Type 0 where
@@ -38,8 +38,8 @@ well s e =
     let last = s .lastNumber in
     let p = or-no (unfit g count o last) _ (passed 10 _ e) in
     let q1 = or-no (costForbidden (s .entries)) _ (p .1) in
-    let q2 = or-no (numbersAstray (s .entries)) _ (q1 .1) in
-    let q3 = or-no (repeatedTwice (s .entries)) (frontAstray g last (s .lastLength) o (s .entries)) (q2 .1) in
+    let q2 = or-no (misnumbered (s .entries)) (frontAstray g last (s .lastLength) o (s .entries)) (q1 .1) in
+    let q3 = or-no (numbersAstray (s .entries)) (repeatedTwice (s .entries)) (q2 .0) in
     let p1 = or-no (settingsForbidden g) _ (p .0) in
     let p2 = or-no (overRoom count) _ (p1 .1) in
     let p3 = or-no (overWindow g count) _ (p2 .1) in
@@ -56,8 +56,8 @@ well s e =
       moded = λ h. and-left (isNone g) _ (p6 .0) (some h);
       called = λ h. eqb-false last 0 (and-left (eqb last 0) _ (p6 .1) (some h));
       sound = q1 .0;
-      order = record { falls = q2 .0; equals = ltb-false 1 _ (q3 .0) };
-      front = λ h k. not-eqb _ _ (and-right (ltb a (s .lastLength)) _ (and-right (not (eqb count 0)) _ (q3 .1) (some h)) (lt-ltb _ _ k));
+      order = record { falls = q3 .0; equals = ltb-false 1 _ (q3 .1) };
+      front = λ h k. not-eqb _ _ (and-right (ltb a (s .lastLength)) _ (and-right (not (eqb count 0)) _ (q2 .1) (some h)) (lt-ltb _ _ k));
     }
 
 pub passes : (s : View) → Well s → stateFault s ≡ 0

@@ -66,6 +66,10 @@ numbersAstray l = anyOf areAstray (neighbours (numbersOf l))
 abbrev pub repeatedTwice : List ScenecutResult → Bool
 repeatedTwice l = ltb 1 (countOf areEqual (neighbours (numbersOf l)))
 
+-- the parts that are seen of the pair numbers alone
+abbrev pub misnumbered : List ScenecutResult → Bool
+misnumbered l = numbersAstray l || repeatedTwice l
+
 -- "where the last length is above A, .. a front number other than last number + o"; with no entry there is no front
 abbrev pub frontAstray : Settings → ℕ → ℕ → ℕ → List ScenecutResult → Bool
 frontAstray g last lastLength o l =
@@ -75,8 +79,7 @@ unfoldable pub stateFault : View → ℕ
 stateFault s =
     refusal 11 (unfit (s .settings) (length (s .entries)) (s .offset) (s .lastNumber)
     || (costForbidden (s .entries)
-    || (numbersAstray (s .entries)
-    || (repeatedTwice (s .entries) || frontAstray (s .settings) (s .lastNumber) (s .lastLength) (s .offset) (s .entries)))))
+    || (misnumbered (s .entries) || frontAstray (s .settings) (s .lastNumber) (s .lastLength) (s .offset) (s .entries))))
 
 -- ---- 7
 

@@ -1,16 +1,17 @@
--- `lent::fresh` meets its contract: a refusal leaves the numbers, and else all thirteen are those of a fresh state. Assumes nothing.
+-- `lent::fresh` meets its contract: a refusal leaves the numbers, and else the first thirteen are those of a fresh state. Assumes nothing.
 use mathlib.Core.Path.{_≡_, sym, ap, _∙_}
 use mathlib.Core.Bool.{true}
 use mathlib.Core.List.{List, _++_}
 use Prim.Native.Nat.{ℕ}
 use native.Mathlib.Omega.{arith}
 use borrow.Author.Needs.{needs}
-use lib.ListN.{take}
+use lib.ListN.{take, drop}
+use lib.Seq.{drop-drop}
 use Rattle.answer.proofs.Laws.{lent-written, lent-kept}
 use Rattle.settings.specs.Settings.{settingsFault}
 use Rattle.state.specs.State.{View, view}
 use Rattle.detector.specs.Fresh.{Opening, freshView}
-use Rattle.lent.specs.Places.{settingsLong, isState, settingNumbers, callNumbers}
+use Rattle.lent.specs.Places.{settingsLong, callLong, pairsPlace, isState, settingNumbers, callNumbers}
 use Rattle.lent.proofs.Sizes.{other-numbers, other-scores, both, fresh-other, fresh-state}
 use Rattle.lent.proofs.fresh.Statement.{statement}
 use Rattle.lent.proofs.fresh.Tie as tie
@@ -67,10 +68,11 @@ returns-4 c =
     let f = e .before in
     let a = start f .args in
     let z = fresh-state (a .numbers .now) (a .scores .now) (a .g) 0 (state f) (sym (e .if3 .left) ∙ fault f) in
-    let n : p .put-call .last .0 ≡ settingNumbers (a .g) ++ callNumbers (freshView (a .g)) =
+    let n : p .put-call .last .0 ≡ settingNumbers (a .g) ++ callNumbers (freshView (a .g)) ++ drop pairsPlace (a .numbers .now) =
     p .put-call .ensures
-    ∙ ap (λ (l : List ℕ). take settingsLong l ++ callNumbers (view (f .fresh .result .state))) (q .put-settings .ensures)
-    ∙ ap (λ (v : View). settingNumbers (a .g) ++ callNumbers v) (ready f) in
+    ∙ ap (λ (l : List ℕ). take settingsLong l ++ callNumbers (view (f .fresh .result .state)) ++ drop pairsPlace l) (q .put-settings .ensures)
+    ∙ ap (λ (v : View). settingNumbers (a .g) ++ callNumbers v ++ drop callLong (drop settingsLong (a .numbers .now))) (ready f)
+    ∙ ap (λ (l : List ℕ). settingNumbers (a .g) ++ callNumbers (freshView (a .g)) ++ l) (drop-drop callLong settingsLong (a .numbers .now)) in
     (z, n ∙ lent-written _ _ _ z)
 
 pub fresh-spec : {M : Type 1} → statement M

@@ -1,13 +1,10 @@
--- `lent::put_call` meets its contract: six stores behind the settings, up to the end. Assumes nothing.
-use mathlib.Core.List.{List, _++_, append-nil}
-use mathlib.Core.Path.{_∙_, ap}
-use Prim.Native.Nat.{ℕ}
+-- `lent::put_call` meets its contract: six stores behind the settings. Assumes nothing.
 use native.Mathlib.Omega.{arith}
 use borrow.Author.Needs.{needs}
-use lib.ListN.{take, length-set, drop-of-length-le}
+use lib.ListN.{length-set}
 use lib.Seq.{sets-eq}
 use Rattle.state.specs.State.{view}
-use Rattle.lent.specs.Places.{numbersLong, settingsLong, callNumbers}
+use Rattle.lent.specs.Places.{settingsLong, callNumbers}
 use Rattle.lent.proofs.put_call.Statement.{statement}
 use Rattle.lent.proofs.put_call.Tie as tie
 
@@ -39,11 +36,7 @@ returns : tie.Need-returns
 returns c =
     let a = c .before .before .args in
     let ns = a .numbers .now in
-    let written = take settingsLong ns ++ callNumbers (view (a .s)) in
-    rw (c .entry-count .ensures)
-    (sets-eq (callNumbers (view (a .s))) ns settingsLong (omega arith)
-    ∙ ap (λ (r : List ℕ). written ++ r) (drop-of-length-le ns {i = numbersLong} (omega arith))
-    ∙ append-nil written)
+    rw (c .entry-count .ensures) (sets-eq (callNumbers (view (a .s))) ns settingsLong (omega arith))
 
 pub put-call-spec : {M : Type 1} → statement M
 put-call-spec =

@@ -17,7 +17,7 @@ add-window : tie.Need-add-window
 add-window c = search needs
 
 returns : tie.Need-returns
-returns c = rw (c .lookahead-offset .ensures, c .before .fault .ensures)
+returns c = rw (c .before .lookahead-offset .ensures, c .before .before .fault .ensures)
 
 pub is-unfit-spec : {M : Type 1} → statement M
 is-unfit-spec =
