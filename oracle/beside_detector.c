@@ -159,6 +159,16 @@ static struct frame frame(void)
     return f;
 }
 
+/* Whether the score that was decided on has the inter cost of the pair that its number names. Where frames are reduced an item's
+   second score is 0. */
+static int names_its_pair(const struct frame *f, size_t count)
+{
+    const uint64_t o = numbers[BRINE_OFFSET], *pairs = numbers + BRINE_PAIRS;
+    const double inter = scores[o * ENTRY + BRINE_INTER];
+    int is_second = o + 1 < numbers[BRINE_COUNT] && pairs[o] == pairs[o + 1];
+    return pairs[o] < count && (same(inter, f[pairs[o]].inter) || (is_second && inter == 0));
+}
+
 /* The library's answers for one call of the driver against the crate's: is frame n a cut, and its score. */
 static int film_call(struct frame *f, size_t count, size_t n, size_t ahead, uint64_t *previous, int cut,
                      const double *score)
@@ -176,6 +186,7 @@ static int film_call(struct frame *f, size_t count, size_t n, size_t ahead, uint
                                       set - 1, threshold, set - 1);
     int ok = got == cut + (score != NULL ? 2 : 0);
     for (int i = 0; ok && score != NULL && i < ENTRY; i++) ok = same(scores[numbers[BRINE_OFFSET] * ENTRY + i], score[i]);
+    ok = ok && (score == NULL || names_its_pair(f, count));
     if (got >= 0 && (got & 1)) *previous = n;
     return ok;
 }

@@ -112,7 +112,7 @@ fn first_set(r: &mut Random) -> u64 {
 }
 
 /// Calls over one film from state s, of which the first has a set of so many frames; sets never get longer.
-pub fn film(desk: &mut Desk, r: &mut Random, mut s: State, first: u64, calls: u64, mut set: u64) {
+fn film(desk: &mut Desk, r: &mut Random, mut s: State, first: u64, calls: u64, mut set: u64) {
     let film = Film::new(r, &s, first, calls);
     let mut d = (film.real && possible(&s)).then(|| film.placed(&s, first));
     let mut previous = first - r.below(first.min(20) + 1);

@@ -83,9 +83,10 @@ fn state_fault(s: &State) -> bool {
 
 /// What document 02's L5 adds to 11, for a state with entries, in its order and words. Sums are exact numbers.
 fn entries_fault(s: &State) -> bool {
-    let (n, pairs, exact) = (&s.numbers, s.pairs(), |x: u64| u128::from(x));
+    let (n, mode, pairs) = (&s.numbers, s.mode(), s.pairs());
+    let exact = |x: u64| u128::from(x);
     // "Entries in None mode or before any accepted call."
-    if s.mode() == NONE {
+    if mode == NONE {
         return true;
     }
     if n[LAST] == 0 {

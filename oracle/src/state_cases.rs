@@ -5,7 +5,7 @@ use crate::detector_cases::{Depths, settings};
 use crate::pair_cases;
 use crate::random::Random;
 use crate::reading::NONE;
-use crate::sizes::{COUNT, LAST, LENGTH, OFFSET, PAIRS, ROOM, SCORE, SCORES, SET_LIMIT};
+use crate::sizes::{OFFSET, PAIRS, ROOM, SCORE, SCORES, SET_LIMIT};
 use crate::state::State;
 use crate::values::{Taste, any_real};
 
@@ -53,7 +53,6 @@ pub fn any_state(r: &mut Random, depths: Depths) -> State {
         count = count.min(last + offset + 1);
     }
     s.numbers[OFFSET..PAIRS].copy_from_slice(&[offset, last, length, odd(r), odd(r), count]);
-    debug_assert!(s.numbers[COUNT] == count && s.numbers[LAST] == last && s.numbers[LENGTH] == length);
     put_costs(r, &mut s);
     pair_cases::number(r, &mut s);
     s
