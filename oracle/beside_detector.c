@@ -160,13 +160,13 @@ static struct frame frame(void)
 }
 
 /* Whether the score that was decided on has the inter cost of the pair that its number names. Where frames are reduced an item's
-   second score is 0. */
+   second score has 0; it may be decided on when the first one is dropped already. */
 static int names_its_pair(const struct frame *f, size_t count)
 {
-    const uint64_t o = numbers[BRINE_OFFSET], *pairs = numbers + BRINE_PAIRS;
-    const double inter = scores[o * ENTRY + BRINE_INTER];
-    int is_second = o + 1 < numbers[BRINE_COUNT] && pairs[o] == pairs[o + 1];
-    return pairs[o] < count && (same(inter, f[pairs[o]].inter) || (is_second && inter == 0));
+    const uint64_t *n = numbers, pair = n[BRINE_PAIRS + n[BRINE_OFFSET]];
+    const double inter = scores[n[BRINE_OFFSET] * ENTRY + BRINE_INTER];
+    int is_reduced = brine_scale_factor(n[BRINE_WIDTH], n[BRINE_HEIGHT], (uint32_t)n[BRINE_MODE]) > 1;
+    return pair < count && (same(inter, f[pair].inter) || (is_reduced && inter == 0));
 }
 
 /* The library's answers for one call of the driver against the crate's: is frame n a cut, and its score. */
