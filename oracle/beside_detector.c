@@ -169,9 +169,11 @@ static int names_its_pair(const struct frame *f, size_t count)
     return pair < count && (same(inter, f[pair].inter) || (is_reduced && inter == 0));
 }
 
-/* The library's answers for one call of the driver against the crate's: is frame n a cut, and its score. */
-static int film_call(struct frame *f, size_t count, size_t n, size_t ahead, uint64_t *previous, int cut,
-                     const double *score)
+/* What the crate has for a frame: its number, the pair that it is decided on, as counted, and the score. */
+enum { FOUND_FRAME, FOUND_PAIR, FOUND_SCORE, FOUND = FOUND_SCORE + ENTRY };
+
+/* The library's answers for one call of the driver against the crate's: is frame n a cut, and its score, if there is one. */
+static int film_call(struct frame *f, size_t count, size_t n, size_t ahead, uint64_t *previous, int cut, const uint64_t *found)
 {
     double inter[BRINE_SET_LIMIT], importance[BRINE_SET_LIMIT], threshold[BRINE_SET_LIMIT];
     /* The crate's driver has no largest set; a longer one is refused here. */
@@ -184,9 +186,13 @@ static int film_call(struct frame *f, size_t count, size_t n, size_t ahead, uint
     }
     int64_t got = brine_detector_step(numbers, BRINE_NUMBERS, scores, BRINE_SCORES, set, n, *previous, inter, set - 1, importance,
                                       set - 1, threshold, set - 1);
-    int ok = got == cut + (score != NULL ? 2 : 0);
-    for (int i = 0; ok && score != NULL && i < ENTRY; i++) ok = same(scores[numbers[BRINE_OFFSET] * ENTRY + i], score[i]);
-    ok = ok && (score == NULL || names_its_pair(f, count));
+    int ok = got == cut + (found != NULL ? 2 : 0);
+    if (ok && found != NULL) {
+        double score[ENTRY];
+        memcpy(score, found + FOUND_SCORE, sizeof score);
+        for (int i = 0; ok && i < ENTRY; i++) ok = same(scores[numbers[BRINE_OFFSET] * ENTRY + i], score[i]);
+        ok = ok && numbers[BRINE_PAIRS + numbers[BRINE_OFFSET]] == found[FOUND_PAIR] && names_its_pair(f, count);
+    }
     if (got >= 0 && (got & 1)) *previous = n;
     return ok;
 }
@@ -201,7 +207,7 @@ void whole_film(void)
     size_t cut_count = word();
     const uint64_t *cut = words(cut_count);
     size_t score_count = word();
-    const uint64_t *score = words(score_count * (1 + ENTRY));
+    const uint64_t *found = words(score_count * FOUND);
     int ok = 1;
     for (size_t i = 1; i < count; i++) ok = ok && measure((uint32_t)s[2], s[4], &f[i - 1], &f[i]);
     ok = ok && brine_detector_fresh(s[0], s[1], (uint32_t)s[2], s[3], (uint32_t)s[4], s[5], s[6], numbers, BRINE_NUMBERS, scores,
@@ -211,8 +217,8 @@ void whole_film(void)
     size_t next_cut = 1, next_score = 0, n;
     for (n = 1; ok && n < count; n++) {
         int is_cut = next_cut < cut_count && cut[next_cut] == n;
-        int has_score = next_score < score_count && score[next_score * (1 + ENTRY)] == n;
-        ok = film_call(f, count, n, s[3], &previous, is_cut, has_score ? (const double *)&score[next_score * (1 + ENTRY) + 1] : NULL);
+        int has_score = next_score < score_count && found[next_score * FOUND + FOUND_FRAME] == n;
+        ok = film_call(f, count, n, s[3], &previous, is_cut, has_score ? found + next_score * FOUND : NULL);
         next_cut += (size_t)is_cut;
         next_score += (size_t)has_score;
     }

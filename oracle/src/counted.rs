@@ -4,12 +4,13 @@ use std::sync::Arc;
 
 use fed::ScenecutResult;
 use v_frame::{
-    frame::Frame,
+    frame::{Fed, Frame},
+    plane::{Mark, Plane},
     watch::{self, Compared},
 };
 
 use crate::attempt::attempt;
-use crate::run::Detector;
+use crate::run::{Detector, detector};
 use crate::state::{Entry, Score};
 
 /// What the crate answers, its offset and entries after the call with the numbers counted, and the score that it gives.
@@ -73,6 +74,20 @@ impl Counted {
         self.scored = (self.scored + compared.len()).min(after);
         was_even && after <= grown && compared.iter().all(|one| one.said.is_none_or(|number| number == one.frame))
     }
+}
+
+/// Which pair the crate decides on for each frame of a film, as its driver walks over it: a set begins one frame before and has
+/// lookahead + 2 frames, fewer at the end. Nothing for a frame without a score. What was measured bears on none of this.
+pub fn decided_pairs(settings: &[u64; 7], frames: usize) -> Vec<Option<u64>> {
+    let frame = |i| Arc::new(Frame::of(Plane::marked(Mark { frame: i, difference: 0 }), Fed::default()));
+    let film: Vec<_> = (0..frames as u64).map(frame).collect();
+    let mut d = Counted::new(detector(settings), &[]);
+    let mut decided = |n: usize| {
+        let set: Vec<_> = film[n.checked_sub(1)?..].iter().take(settings[3] as usize + 2).collect();
+        let answer = d.ask(&set, n, 0).filter(|answer| answer.is_counted)?;
+        answer.given.map(|_| answer.entries[answer.offset as usize].pair)
+    };
+    (0..frames).map(&mut decided).collect()
 }
 
 fn score(e: &ScenecutResult) -> Score {
