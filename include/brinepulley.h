@@ -171,14 +171,15 @@ int64_t brine_satd8x8_16(const uint16_t *first, size_t first_len, const uint16_t
 #define BRINE_ENTRIES 16
 #define BRINE_SET_LIMIT BRINE_ENTRIES
 
-/* A detector's state lives in two places that the caller keeps: `numbers`, BRINE_NUMBERS of them, one for each score among
- * them, and `scores`, BRINE_SCORES doubles, which are BRINE_SCORE_DOUBLES for each score. Places with other lengths are no state.
- * Keep both between the calls, and change nothing in them. */
+/* A detector's state lives in two places that the caller keeps: `numbers`, BRINE_NUMBERS (29) of them, thirteen and then a pair
+ * number for each score from BRINE_PAIRS on; and `scores`, BRINE_SCORES doubles, which are BRINE_SCORE_DOUBLES for each score.
+ * Places with other lengths are no state. Keep both between the calls, and change nothing in them. */
+#define BRINE_PAIRS 13
 #define BRINE_NUMBERS (BRINE_PAIRS + BRINE_ENTRIES)
 #define BRINE_SCORE_DOUBLES 5
 #define BRINE_SCORES (BRINE_ENTRIES * BRINE_SCORE_DOUBLES)
 
-/* The numbers, by their index. */
+/* The numbers below BRINE_PAIRS, by their index. */
 enum brine_number {
     BRINE_WIDTH,          /* the settings, which no call changes: the resolution .. */
     BRINE_HEIGHT,
@@ -192,14 +193,13 @@ enum brine_number {
     BRINE_LAST_LENGTH,
     BRINE_FIRST_NUMBER,   /* the frame number of the first accepted call; 0 before any */
     BRINE_RELEASE_NUMBER, /* no frame numbered below it is looked at again, not in a restart either; 0 before any call */
-    BRINE_COUNT,          /* how many scores there are, from the front of `scores` on */
-    BRINE_PAIRS           /* numbers[BRINE_PAIRS + k] is the pair number of score k, see below */
+    BRINE_COUNT           /* how many scores there are, from the front of `scores` on */
 };
 
-/* Score k is the doubles from scores[BRINE_SCORE_DOUBLES * k] on, in this order. The newest score is score 0. Its pair number is
- * numbers[BRINE_PAIRS + k]: pair n are the frames n - 1 and n. From the front on these numbers fall by one, save that a first
- * call may score an item of its set twice: then the second score has the number of the one behind it. Doubles and pair numbers
- * past the count are no part of the state: they are neither read nor written. */
+/* Score k is the doubles from scores[BRINE_SCORE_DOUBLES * k] on, in this order. The newest score is score 0. The pair number of
+ * score k is numbers[BRINE_PAIRS + k]; pair n is the frames n - 1 and n. From score 0 on these numbers fall by one. A first call
+ * may score an item twice: then the later of its two scores has the number of the one behind it. Doubles and pair numbers past
+ * the count are no part of the state: they are neither read nor written. */
 enum brine_double {
     BRINE_INTER,
     BRINE_IMPORTANCE,
@@ -248,9 +248,9 @@ int64_t brine_detector_fresh(size_t width, size_t height, uint32_t depth, size_t
  *   11, where a length is not the state's, or the settings are ones that `fresh` refuses, or the count is not below
  *       BRINE_ENTRIES (or above 10 with a lookahead of 5 or more), or the offset is not below the count (with no score: not 5
  *       or 0, as the lookahead has it), or a score's inter cost is one that 10 forbids, or there are scores in None mode or
- *       before any accepted call, or two neighbours' pair numbers neither fall by one nor are equal, or more than one pair of
- *       neighbours is equal, or, where the last length is above 5 or 0, as the lookahead has it, the front's pair number is
- *       not the last number and the offset together;
+ *       before any accepted call, or from some score k to k + 1 the pair number neither falls by one nor stays, or it stays more
+ *       than once, or, where there is a score and the last length is above 5 (above 0 with a lookahead below 5), the pair
+ *       number of score 0 is not the last number + the offset, as exact numbers;
  *   7, 8, 9;
  *   10, where a list that is read has not set_len - 1 items, or an inter cost is a NaN, infinite or below 0, or an importance
  *       or a threshold is infinite or below 0 (there a NaN is allowed).

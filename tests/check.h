@@ -25,6 +25,8 @@ extern const struct test nan_tests[];
 extern const struct test edge_tests[];
 extern const struct test fresh_tests[];
 extern const struct test step_tests[];
+extern const struct test pair_tests[];
+extern const struct test pair_refused_tests[];
 extern const struct test run_tests[];
 extern const struct test meeting_tests[];
 extern const struct test purge_tests[];

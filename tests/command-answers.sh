@@ -6,12 +6,12 @@ luma='50 50 50 50 50 50 90 90 90 90 90 90 90 90 90 90'
 # Fast: the difference is 40 at frame 6 and 0 elsewhere. The last four frames have sets of at most 5.
 film y4m 64 48 420jpeg $luma > "$flat"
 awk 'BEGIN {
-    print "frame,cut,inter,importance,backward,forward,threshold,release,large"
-    print "0,1,,,,,,0,0"
+    print "frame,cut,inter,importance,backward,forward,threshold,release,large,pair"
+    print "0,1,,,,,,0,0,"
     for (n = 1; n <= 15; n++) {
         d = n == 6 ? 40 : 0
-        if (n <= 11) printf "%d,%d,%d,%d,%d,%d,18,0,0\n", n, n == 6, d, d, d, d
-        else printf "%d,0,,,,,,0,0\n", n
+        if (n <= 11) printf "%d,%d,%d,%d,%d,%d,18,0,0,%d\n", n, n == 6, d, d, d, d, n
+        else printf "%d,0,,,,,,0,0,\n", n
     }
 }' > "$expected"
 gives "fast mode, every line" "$expected" decide "$flat" --csv
@@ -35,13 +35,14 @@ verdict "release numbers" $?
 # release number is n - 10 from call 11 to call 26, so frame n - 11 goes after each of them, and 16 to 31 stay.
 purged() { # FIRST
     awk -v first="$1" 'BEGIN {
-        print "frame,cut,inter,importance,backward,forward,threshold,release,large,purge"
-        print first ",1,,,,,,0,0,"
+        print "frame,cut,inter,importance,backward,forward,threshold,release,large,pair,purge"
+        print first ",1,,,,,,0,0,,"
         for (n = 1; n <= 31; n++) {
             d = n == 6 || n == 16 || n == 22 ? 40 : 0
             score = n <= 27 ? d "," d "," d "," d ",18" : ",,,,"
+            pair = n <= 27 ? first + n : ""
             release = first + (n <= 10 ? 0 : n <= 26 ? n - 10 : 16)
-            print first + n "," (d > 0) "," score "," release ",0," (n >= 11 && n <= 26 ? first + n - 11 : "")
+            print first + n "," (d > 0) "," score "," release ",0," pair "," (n >= 11 && n <= 26 ? first + n - 11 : "")
         }
     }'
 }
@@ -51,9 +52,10 @@ in_words() { # FIRST
     {
         line = sprintf("%7s", $1)
         put(NR == 1 ? $2 : $1 == first ? "first" : $2 ? "cut" : ".", 5)
-        for (i = 3; i <= 7; i++) put($i, 10)
-        put($8, 9)
-        put($10, 9)
+        for (i = 3; i <= 7; i++) put($i, i == 4 ? 10 : 9)
+        put($10, 6)
+        put($8, 7)
+        put($11, 9)
         print line
     }
     END { print "32 frames, 3 cuts" }'
@@ -69,9 +71,9 @@ gives "--purge, longer sets that get short" "$expected" decide --csv --purge --l
 gives "--purge with a log" "$expected" decide --csv --purge "$room/long.y4m" --log "$room/purge.log"
 [ "$(wc -c < "$room/purge.log")" = $((27 * 47)) ]
 verdict "--purge with a log: a record for each score" $?
-cut -d , -f 1-9 "$expected" > "$room/words"
+cut -d , -f 1-10 "$expected" > "$room/words"
 gives "without --purge there is no such column" "$room/words" decide --csv "$room/long.y4m"
-goes() { awk -F, 'NR > 1 && $10 != "" { printf "%s ", $10 }' "$room/out"; }
+goes() { awk -F, 'NR > 1 && $NF != "" { printf "%s ", $NF }' "$room/out"; }
 awk 'BEGIN { while (n++ < 31) print n % 5 }' > "$room/purge.costs"
 command_run decide --csv --purge --mode standard --inter "$room/purge.costs" "$room/long.y4m"
 [ "$status" = 0 ] && [ "$(goes)" = "0 1 2 3 4 5 6 7 8 9 10 11 12 13 14 15 " ]
@@ -79,12 +81,12 @@ verdict "--purge in standard mode" $?
 for words in '--mode none --max 4' '--lookahead 4'; do
     # shellcheck disable=SC2086 # words
     command_run decide --csv --purge $words "$room/long.y4m"
-    [ "$status" = 0 ] && [ "$(awk -F, 'NF == 10 && $10 == ""' "$room/out" | wc -l)" = 32 ] &&
+    [ "$status" = 0 ] && [ "$(awk -F, 'NF == 11 && $11 == ""' "$room/out" | wc -l)" = 32 ] &&
         [ "$(awk -F, 'NR > 1 && $8 != 0' "$room/out")" = "" ]
     verdict "--purge $words: no frame goes" $?
 done
 command_run decide --purge --mode none "$room/long.y4m"
-[ "$status" = 0 ] && [ "$(grep -Ec '^ +[0-9]+ +(first|\.)( +-){5} +0 +-$' "$room/out")" = 32 ]
+[ "$status" = 0 ] && [ "$(grep -Ec '^ +[0-9]+ +(first|\.)( +-){6} +0 +-$' "$room/out")" = 32 ]
 verdict "--purge --mode none, lines for people" $?
 for frames in 1 2 16 17; do
     # shellcheck disable=SC2046 # words
@@ -112,20 +114,20 @@ cuts_at "a film of two frames" "0" "$room/two.y4m"
 # A film whose sides are halved: columns of 16 and 17 have the mean 16.5, which goes up to 17; so 40 lies 23 above.
 film y4m 482 242 mono 16/17 16/17 16/17 16/17 16/17 16/17 40 40 40 40 40 40 40 > "$room/halved.y4m"
 command_run decide --csv "$room/halved.y4m"
-[ "$(sed -n 8p "$room/out")" = "6,1,23,23,23,23,18,0,0" ]
+[ "$(sed -n 8p "$room/out")" = "6,1,23,23,23,23,18,0,0,6" ]
 verdict "planes are reduced by the scale rule" $?
 
 # Standard: SATD of flat 90 against 128 is 38 * 64 / 8 = 304, and 304 * (1.0 - 0.7) is the threshold.
 awk 'BEGIN { for (n = 1; n <= 15; n++) print n == 6 ? "500" : " 2.5e0\r" }' > "$costs"
 command_run decide --csv --mode standard --inter "$costs" "$flat"
-[ "$(sed -n 8p "$room/out")" = "6,1,500,40,497.5,497.5,91.20000000000002,0,0" ]
+[ "$(sed -n 8p "$room/out")" = "6,1,500,40,497.5,497.5,91.20000000000002,0,0,6" ]
 verdict "standard mode, the cut's line" $?
 [ "$(cuts)" = "0 6" ]
 verdict "standard mode, the cuts" $?
 film y4m 7 7 mono 1 2 3 4 > "$room/small.y4m"
 printf '1\n2\n3\n' > "$costs"
 command_run decide --csv --mode standard --inter "$costs" --lookahead 1 "$room/small.y4m"
-[ "$status" = 0 ] && [ "$(sed -n 3p "$room/out")" = "1,0,2,nan,0,0,nan,0,0" ]
+[ "$status" = 0 ] && [ "$(sed -n 3p "$room/out")" = "1,0,2,nan,0,0,nan,0,0,2" ]
 verdict "standard mode without a whole block" $?
 
 command_run decide "$flat"

@@ -7,12 +7,12 @@ still='50 50 50 50 50 50 50 50 50 50 50 50 50 50'
 for bits in 10 12; do
     threshold=$([ $bits = 10 ] && echo 22.5 || echo 27)
     awk -v threshold="$threshold" 'BEGIN {
-        print "frame,cut,inter,importance,backward,forward,threshold,release,large"
-        print "0,1,,,,,,0,0"
+        print "frame,cut,inter,importance,backward,forward,threshold,release,large,pair"
+        print "0,1,,,,,,0,0,"
         for (n = 1; n <= 15; n++) {
             d = n == 6 ? 300 : 0
-            if (n <= 11) printf "%d,%d,%d,%d,%d,%d,%s,0,0\n", n, n == 6, d, d, d, d, threshold
-            else printf "%d,0,,,,,,0,0\n", n
+            if (n <= 11) printf "%d,%d,%d,%d,%d,%d,%s,0,0,%d\n", n, n == 6, d, d, d, d, threshold, n
+            else printf "%d,0,,,,,,0,0,\n", n
         }
     }' > "$expected"
     for colour in 420p 422p 444p mono; do
@@ -55,8 +55,8 @@ while read -r bits low high line; do
     [ "$(sed -n 8p "$room/out")" = "$line" ]
     verdict "planes of $bits bits are reduced by the scale rule" $?
 done << 'END'
-10 990/991 1014 6,1,23,23,23,23,22.5,0,0
-12 3000/3001 3028 6,1,27,27,27,27,27,0,0
+10 990/991 1014 6,1,23,23,23,23,22.5,0,0,6
+12 3000/3001 3028 6,1,27,27,27,27,27,0,0,6
 END
 
 # Standard: the flat prediction is 512 or 2048. SATD of flat 500 against 512 is 12 * 64 / 8 = 96, of 2000 against 2048 it is 384, and
@@ -69,12 +69,12 @@ while read -r bits first second line; do
     [ "$status" = 0 ] && [ "$(sed -n 8p "$room/out")" = "$line" ]
     verdict "standard mode, $bits bits, $first and then $second" $?
 done << 'END'
-10 540 500 6,1,500,40,497.5,497.5,28.800000000000004,0,0
-10 509 500 6,1,500,9,497.5,497.5,28.800000000000004,0,0
-10 508 500 6,0,500,8,497.5,497.5,28.800000000000004,0,1
-12 2040 2000 6,1,500,40,497.5,497.5,115.20000000000002,0,0
-12 2011 2000 6,1,500,11,497.5,497.5,115.20000000000002,0,0
-12 2010 2000 6,0,500,10,497.5,497.5,115.20000000000002,0,1
+10 540 500 6,1,500,40,497.5,497.5,28.800000000000004,0,0,6
+10 509 500 6,1,500,9,497.5,497.5,28.800000000000004,0,0,6
+10 508 500 6,0,500,8,497.5,497.5,28.800000000000004,0,1,6
+12 2040 2000 6,1,500,40,497.5,497.5,115.20000000000002,0,0,6
+12 2011 2000 6,1,500,11,497.5,497.5,115.20000000000002,0,0,6
+12 2010 2000 6,0,500,10,497.5,497.5,115.20000000000002,0,1,6
 END
 
 # A sample that is too large for its bits is refused as soon as its frame is there, in each mode, and the frame is named. Here it is a

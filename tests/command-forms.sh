@@ -102,7 +102,7 @@ done << 'END'
 4294967295:1 0:00:00.000 1.6298145059565582e-09
 END
 command_run decide "$storm" --times --purge --csv
-head -n 1 "$room/out" | grep -q ',release,large,time,purge$' && grep -q '^12,1,40,40,40,40,18,2,0,7200,1$' "$room/out"
+head -n 1 "$room/out" | grep -q ',release,large,time,pair,purge$' && grep -q '^12,1,40,40,40,40,18,2,0,7200,12,1$' "$room/out"
 verdict "the columns' order" $?
 
 # Bars: nine letters are the threshold.

@@ -22,7 +22,7 @@ makes_none() { # NAME STATUS WORDS ARGUMENTS..
 
 # Numbers from 100 on: those of lines, calls and keyframes.
 command_run decide "$flat" --csv
-awk -F, -v OFS=, 'NR > 1 { $1 += 100; if ($1 > 100) $8 += 100 } { print }' "$room/out" > "$expected"
+awk -F, -v OFS=, 'NR > 1 { $1 += 100; if ($1 > 100) $8 += 100; if ($10 != "") $10 += 100 } { print }' "$room/out" > "$expected"
 gives "--first 100, every line" "$expected" decide "$flat" --csv --first 100
 command_run decide "$flat" --first 100
 grep -Eq '^ +100 first ' "$room/out" && [ "$(tail -n 1 "$room/out")" = "16 frames, 1 cut" ]

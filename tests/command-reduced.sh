@@ -21,7 +21,7 @@ while read -r width height depth factor frames; do
         film swell "$width" "$height" "$depth" "$factor" $luma > "$small"
     }
     what="$width × $height of $depth bits, divided by $factor"
-    for words in --csv --bars --cuts; do
+    for words in --csv --bars --cuts --dump; do
         $RUN "$COMMAND" decide "$small" $words > "$expected" 2> /dev/null
         command_run decide "$whole" $words
         [ "$status" = 0 ] && [ -s "$expected" ] && cmp -s "$expected" "$room/out"

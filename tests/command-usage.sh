@@ -8,7 +8,7 @@ verdict "--help" $?
 command_run decide --help
 [ "$status" = 0 ] && grep -q 'decide FILM.y4m' "$room/out"
 verdict "decide --help" $?
-for option in mode lookahead min max inter log first cuts bars times purge csv; do
+for option in mode lookahead min max inter log first cuts bars dump times purge csv; do
     [ "$(grep -c -- "--$option\b" "$room/out")" -ge 2 ] && grep -q "^ *--$option  *[a-z]" "$room/out"
     verdict "decide --help: --$option" $?
 done
@@ -49,10 +49,15 @@ ends "lookahead 0" 2 "at least 1" decide "$a" --lookahead 0
 for bad in '' x 1x -1 +1 ' 1' 1.5 18446744073709551616; do
     ends "a bad number '$bad'" 2 "--max wants a whole number below 2^64, not" decide "$a" --max "$bad"
 done
-for words in '--cuts --bars' '--bars --cuts' '--bars --csv' '--cuts --purge' '--bars --purge'; do
+for words in '--cuts --bars' '--bars --cuts' '--bars --csv' '--cuts --purge' '--bars --purge' '--dump --purge' '--dump --purge --csv'; do
     # shellcheck disable=SC2086 # words
     ends "$words do not go together" 2 "--\(cuts\|bars\|purge\) " decide "$a" $words
 done
+for words in '--dump --cuts' '--cuts --dump' '--dump --bars' '--bars --dump' '--cuts --dump --csv'; do
+    # shellcheck disable=SC2086 # words
+    ends "$words do not go together" 2 "--cuts, --bars and --dump are three ways to show a film: ask for one" decide "$a" $words
+done
+ends "log has no --dump" 2 "no option '--dump'" log "$a" --dump
 ends "a number of 2^32 for the first frame" 2 "--first wants a number below 2^32" decide "$a" --first 4294967296
 ends "a number of 2^64 - 1 for the first frame" 2 "--first wants a number below 2^32" decide "$a" --first 18446744073709551615
 ends "standard mode without costs" 2 "--inter FILE" decide "$a" --mode standard

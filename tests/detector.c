@@ -3,10 +3,11 @@
 #include <string.h>
 
 /* The header's names for places are those of the state's description. */
-_Static_assert(BRINE_NUMBERS == COUNT + 1 && BRINE_SCORE_DOUBLES == THRESHOLD + 1, "lengths");
+_Static_assert(BRINE_NUMBERS == PAIRS + BRINE_ENTRIES && BRINE_SCORE_DOUBLES == THRESHOLD + 1, "lengths");
 _Static_assert((int)BRINE_WIDTH == WIDTH && (int)BRINE_LOOKAHEAD == LOOKAHEAD && (int)BRINE_MODE == MODE, "settings");
 _Static_assert((int)BRINE_MIN == MIN && (int)BRINE_OFFSET == OFFSET && (int)BRINE_LAST_NUMBER == LAST, "numbers");
 _Static_assert((int)BRINE_RELEASE_NUMBER == RELEASE && (int)BRINE_COUNT == COUNT, "the last numbers");
+_Static_assert((int)BRINE_PAIRS == PAIRS && PAIRS == COUNT + 1, "the first pair number");
 _Static_assert((int)BRINE_INTER == INTER && (int)BRINE_FORWARD == FORWARD, "a score's first");
 _Static_assert((int)BRINE_IMPORTANCE == IMPORTANCE && (int)BRINE_THRESHOLD == THRESHOLD, "a score's others");
 _Static_assert(BRINE_MODE_NONE == NONE && BRINE_MODE_FAST == FAST && BRINE_MODE_STANDARD == STANDARD, "modes");
@@ -57,19 +58,39 @@ void detector_refuses(struct detector *detector, const struct step *step, int64_
 bool detector_kept(const struct detector *detector)
 {
     const struct lent *n = &detector->lent_numbers, *s = &detector->lent_scores;
-    const size_t numbers = GUARD + BRINE_NUMBERS * sizeof(uint64_t);
-    const size_t past = GUARD + (size_t)detector->numbers[COUNT] * BRINE_SCORE_DOUBLES * sizeof(double);
-    return detector->numbers[COUNT] <= BRINE_ENTRIES
+    const size_t count = (size_t)detector->numbers[COUNT];
+    const size_t numbers = GUARD + (PAIRS + count) * sizeof(uint64_t);
+    const size_t scores = GUARD + count * BRINE_SCORE_DOUBLES * sizeof(double);
+    return count <= BRINE_ENTRIES
         && memcmp(n->kept, n->whole, GUARD) == 0
         && memcmp(n->kept + numbers, n->whole + numbers, sizeof n->whole - numbers) == 0
         && memcmp(s->kept, s->whole, GUARD) == 0
-        && memcmp(s->kept + past, s->whole + past, sizeof s->whole - past) == 0;
+        && memcmp(s->kept + scores, s->whole + scores, sizeof s->whole - scores) == 0;
+}
+
+bool detector_holds(const struct detector *detector, const uint64_t numbers[PAIRS], uint64_t front)
+{
+    if (!detector_kept(detector) || memcmp(detector->numbers, numbers, PAIRS * sizeof(uint64_t)) != 0)
+        return false;
+    for (size_t i = 0; i < numbers[COUNT]; i++)
+        if (detector_pair(detector, i) != front - i)
+            return false;
+    return true;
+}
+
+void detector_number(struct detector *detector, size_t count, uint64_t front)
+{
+    for (size_t i = 0; i < count; i++)
+        detector->numbers[PAIRS + i] = front - i;
 }
 
 bool same_state(const uint64_t *numbers, const double *scores, const uint64_t *numbers2, const double *scores2)
 {
-    for (size_t i = 0; i < BRINE_NUMBERS; i++)
+    for (size_t i = 0; i < PAIRS; i++)
         if (i != FIRST && i != RELEASE && numbers[i] != numbers2[i])
+            return false;
+    for (size_t i = 0; i < numbers[COUNT]; i++)
+        if (numbers[PAIRS + i] != numbers2[PAIRS + i])
             return false;
     for (size_t i = 0; i < BRINE_SCORE_DOUBLES * numbers[COUNT]; i++)
         if (!same_double(scores[i], scores2[i]))
@@ -80,4 +101,9 @@ bool same_state(const uint64_t *numbers, const double *scores, const uint64_t *n
 double detector_score(const struct detector *detector, size_t entry, size_t number)
 {
     return detector->scores[BRINE_SCORE_DOUBLES * entry + number];
+}
+
+uint64_t detector_pair(const struct detector *detector, size_t entry)
+{
+    return detector->numbers[PAIRS + entry];
 }

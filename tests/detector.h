@@ -8,7 +8,7 @@
 enum { NONE = 0, FAST = 1, STANDARD = 2 };
 
 /* Places in `numbers`, in the order of document 01's words: the header's own names are held to these. */
-enum { WIDTH, HEIGHT, DEPTH, LOOKAHEAD, MODE, MIN, MAX, OFFSET, LAST, LENGTH, FIRST, RELEASE, COUNT };
+enum { WIDTH, HEIGHT, DEPTH, LOOKAHEAD, MODE, MIN, MAX, OFFSET, LAST, LENGTH, FIRST, RELEASE, COUNT, PAIRS };
 
 /* Places in a score. */
 enum { INTER, IMPORTANCE, BACKWARD, FORWARD, THRESHOLD };
@@ -43,13 +43,20 @@ int64_t detector_step(struct detector *detector, const struct step *step);
 /* The step is refused with that number, and no byte of the two places changes. */
 void detector_refuses(struct detector *detector, const struct step *step, int64_t number);
 
-/* The guards and the places past the count are as they were before the last step. */
+/* The guards and the places past the count, of scores and of pair numbers, are as they were before the last step. */
 bool detector_kept(const struct detector *detector);
+
+/* The numbers below PAIRS are these. Pair numbers up to the count fall by one from `front` on, and all else is kept as above. */
+bool detector_holds(const struct detector *detector, const uint64_t numbers[PAIRS], uint64_t front);
+
+/* Writes pair numbers that fall by one from `front` on into the first `count` places. */
+void detector_number(struct detector *detector, size_t count, uint64_t front);
 
 /* Two states are the same: all is equal but the first and the release number, and what lies past the count. */
 bool same_state(const uint64_t *numbers, const double *scores, const uint64_t *numbers2, const double *scores2);
 
-/* One number of one entry. */
+/* One number of one entry, and its pair's. */
 double detector_score(const struct detector *detector, size_t entry, size_t number);
+uint64_t detector_pair(const struct detector *detector, size_t entry);
 
 #endif

@@ -61,6 +61,7 @@ prepare() { # LINE
             -i:*) [ -e "$word" ] || make_video "$word" ;;
             # shellcheck disable=SC2046 # a number for each frame
             *:*day.y4m) film y4m 16 16 mono $(awk 'BEGIN { while (n++ < 144) print 50 + n % 9 }') > "$word" ;;
+            *:six.y4m) six_film > "$word" ;;
             *:*.y4m) [ -e "$word" ] || [ "$word" = film.y4m ] || cp film.y4m "$word" ;;
         esac
         before=$word

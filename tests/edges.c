@@ -202,8 +202,8 @@ static void worked_out(void)
     memcpy(step.inter, inter, sizeof inter);
     memcpy(step.importance, importance, sizeof importance);
     EXPECT_NUMBER(detector_step(&detector, &step), 3);
-    const uint64_t want[BRINE_NUMBERS] = {64, 48, 8, 5, STANDARD, 3, 250, 5, 5, 7, 5, 4, 6};
-    EXPECT(lent_holds(&detector.lent_numbers, want));
+    const uint64_t want[PAIRS] = {64, 48, 8, 5, STANDARD, 3, 250, 5, 5, 7, 5, 4, 6};
+    EXPECT(detector_holds(&detector, want, 10)); /* the pairs 10 to 5 */
     for (size_t entry = 0; entry < 6; entry++) {
         EXPECT_DOUBLE(detector_score(&detector, entry, INTER), inter[5 - entry]);
         EXPECT_DOUBLE(detector_score(&detector, entry, IMPORTANCE), importance[5 - entry]);

@@ -10,3 +10,6 @@ storm_film() {
             print n == 8 ? 120 : n < 12 ? 50 : n < 24 ? ripple[1 + n % 4] : n < 27 ? 140 : n < 39 ? ripple[1 + n % 4] : 200
     }')
 }
+
+# A film of six frames: the differences of its pairs are 2, 40, 1, 3 and 4.
+six_film() { film y4m 64 48 420jpeg 50 52 92 93 96 92; }

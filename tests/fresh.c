@@ -33,6 +33,7 @@ static void refusals(void)
 {
     REFUSED(11, c.numbers_len = BRINE_NUMBERS - 1);
     REFUSED(11, c.numbers_len = BRINE_NUMBERS + 1);
+    REFUSED(11, c.numbers_len = PAIRS); /* a state's numbers as they once were */
     REFUSED(11, c.numbers_len = 0);
     REFUSED(11, c.scores_len = BRINE_SCORES - 1);
     REFUSED(11, c.scores_len = BRINE_SCORES + 1);
@@ -60,12 +61,12 @@ static void order(void)
     REFUSED(6, c.height = 0, c.depth = 9);
 }
 
-/* All the numbers, and not one of the scores. */
+/* All the numbers below the pair numbers, and not one of these nor of the scores. */
 static void fresh_is(struct call c, uint64_t offset)
 {
     uint64_t want[BRINE_NUMBERS + 1] = {c.width, c.height, c.depth, c.lookahead, c.mode, c.min, c.max, offset};
     EXPECT_NUMBER(called(c), 0);
-    memcpy(want + BRINE_NUMBERS, numbers.kept + GUARD + BRINE_NUMBERS * sizeof(uint64_t), sizeof(uint64_t));
+    memcpy(want + PAIRS, numbers.kept + GUARD + PAIRS * sizeof(uint64_t), (BRINE_NUMBERS + 1 - PAIRS) * sizeof(uint64_t));
     EXPECT(lent_holds(&numbers, want));
     EXPECT(lent_same(&scores));
 }

@@ -36,7 +36,7 @@ void add_pair(struct line *line, const char *name, uint64_t value)
 
 void add_switches(struct line *line, unsigned bits)
 {
-    static const char *const names[] = {"--csv", "--purge", "--times", "--cuts", "--bars"};
+    static const char *const names[] = {"--csv", "--purge", "--times", "--cuts", "--bars", "--dump"};
     for (size_t i = 0; i < sizeof names / sizeof names[0]; i++)
         if ((bits >> i & 1) != 0 && room_helps(names[i]))
             line_add(line, "%s", names[i]);

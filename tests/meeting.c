@@ -6,7 +6,7 @@
 #include <stddef.h>
 #include <string.h>
 
-enum { PAIRS = 5000 }; /* in each mode */
+enum { HISTORY_PAIRS = 5000 }; /* in each mode */
 enum { STANDARD_CALLS = 10, FAST_CALLS = 5 };
 enum { MOST_BEFORE = 30, FURTHER = 20, SHORTEST_SET = 7, KEPT = 10, GUARD_WORDS = 8, LAST_REFUSAL = 10 };
 
@@ -68,13 +68,14 @@ static bool refuses(struct history *history, const struct step *call, int64_t nu
         && EXPECT(memcmp(&history->now, &history->kept, sizeof history->now) == 0);
 }
 
-/* A call has left the guards, the settings and the doubles past the count as they were. */
+/* A call has left the guards, the settings, and the doubles and pair numbers past the count as they were. */
 static bool others_kept(const struct history *history)
 {
     const struct places *const now = &history->now, *const kept = &history->kept;
-    const size_t past = (size_t)now->numbers[COUNT] * BRINE_SCORE_DOUBLES;
-    return now->numbers[COUNT] <= BRINE_ENTRIES
+    const size_t count = (size_t)now->numbers[COUNT], past = count * BRINE_SCORE_DOUBLES;
+    return count <= BRINE_ENTRIES
         && memcmp(now, kept, offsetof(struct places, numbers) + OFFSET * sizeof now->numbers[0]) == 0
+        && memcmp(now->numbers + PAIRS + count, kept->numbers + PAIRS + count, (BRINE_ENTRIES - count) * sizeof(uint64_t)) == 0
         && memcmp(now->between, kept->between, sizeof now->between) == 0
         && memcmp(now->scores + past, kept->scores + past, (BRINE_SCORES - past) * sizeof(double)) == 0
         && memcmp(now->behind, kept->behind, sizeof now->behind) == 0;
@@ -238,14 +239,14 @@ static bool all_pairs(uint32_t of_mode)
     do {
         depth = depths[pairs % 3];
         draw_from((uint64_t)mode << 32 | pairs);
-    } while (pair_meets() && ++pairs < PAIRS);
-    if (!EXPECT_NUMBER((int64_t)pairs, PAIRS))
+    } while (pair_meets() && ++pairs < HISTORY_PAIRS);
+    if (!EXPECT_NUMBER((int64_t)pairs, HISTORY_PAIRS))
         return false;
     EXPECT(seen.refused[7] >= LEAST_REFUSED && seen.refused[8] >= LEAST_REFUSED && seen.refused[10] >= LEAST_REFUSED);
     EXPECT(seen.cuts >= LEAST_CUTS);
     EXPECT(seen.no_cuts >= LEAST_NO_CUTS);
     EXPECT(seen.ends >= LEAST_ENDS);
-    return EXPECT_NUMBER((int64_t)seen.firsts, PAIRS);
+    return EXPECT_NUMBER((int64_t)seen.firsts, HISTORY_PAIRS);
 }
 
 /* At the tenth call the release number is one below the fresh one's first number in both. */
@@ -264,8 +265,8 @@ static void fast(void)
 {
     if (!all_pairs(FAST))
         return;
-    EXPECT_NUMBER((int64_t)seen.apart, PAIRS);
-    EXPECT_NUMBER((int64_t)seen.releases, PAIRS);
+    EXPECT_NUMBER((int64_t)seen.apart, HISTORY_PAIRS);
+    EXPECT_NUMBER((int64_t)seen.releases, HISTORY_PAIRS);
 }
 
 const struct test meeting_tests[] = {

@@ -1,5 +1,5 @@
 /* Films of 1,000 calls: after each call the offset, the count, the release number, every entry in use and the places
-   past them are held to what document 01's rules give for sets of seven frames and more. */
+   past them are held to what document 01's rules give for sets of seven frames and more, and so are the pair numbers. */
 #include "detector.h"
 
 #include <float.h>
@@ -98,9 +98,8 @@ static size_t run(uint32_t mode, size_t lookahead, size_t set, uint64_t a)
         if (!EXPECT_NUMBER(answer, cut ? 3 : 2))
             return cuts;
         const uint64_t release = (n > a + 9 ? n - 9 : a) - 1;
-        const uint64_t want[BRINE_NUMBERS] = {64, 48, 8, lookahead, mode, 0, UINT32_MAX, AHEAD, n, set, a, release, count};
-        EXPECT(lent_holds(&detector.lent_numbers, want));
-        EXPECT(detector_kept(&detector));
+        const uint64_t want[PAIRS] = {64, 48, 8, lookahead, mode, 0, UINT32_MAX, AHEAD, n, set, a, release, count};
+        EXPECT(detector_holds(&detector, want, newest));
         for (size_t i = 0; i < BRINE_SCORE_DOUBLES * count; i++)
             if (!EXPECT_DOUBLE(detector.scores[i], entries[i / BRINE_SCORE_DOUBLES][i % BRINE_SCORE_DOUBLES]))
                 return cuts;
@@ -145,8 +144,8 @@ static void none_run(void)
         const struct step step = call(7, n, previous);
         const bool cut = n - previous >= 12;
         EXPECT_NUMBER(detector_step(&detector, &step), cut ? 1 : 0);
-        const uint64_t want[BRINE_NUMBERS] = {64, 48, 8, 5, NONE, 5, 12, 5, n, 7, 1, 0, 0};
-        EXPECT(lent_holds(&detector.lent_numbers, want));
+        const uint64_t want[PAIRS] = {64, 48, 8, 5, NONE, 5, 12, 5, n, 7, 1, 0, 0};
+        EXPECT(detector_holds(&detector, want, 0)); /* no entry, so no pair number */
         EXPECT(lent_same(&detector.lent_scores));
         previous = cut ? n : previous;
         cuts += cut;
@@ -167,12 +166,15 @@ static void no_lookahead(void)
         EXPECT_NUMBER((int64_t)detector.numbers[COUNT], 5);
         EXPECT_NUMBER((int64_t)detector.numbers[RELEASE], 0);
         EXPECT_DOUBLE(detector_score(&detector, 0, INTER), film.inter[n + 4]);
+        EXPECT_NUMBER((int64_t)detector_pair(&detector, 0), (int64_t)n + 4);
+        EXPECT_NUMBER((int64_t)detector_pair(&detector, 4), (int64_t)n + (n <= 4)); /* the first four lines are the next pair's */
         EXPECT(detector_kept(&detector));
     }
     for (size_t set = 5; set >= 2; set--, n++) {
         const struct step step = call(set, n, 0);
         EXPECT(detector_step(&detector, &step) >= 2);
         EXPECT_NUMBER((int64_t)detector.numbers[OFFSET], (int64_t)set - 2);
+        EXPECT_NUMBER((int64_t)detector_pair(&detector, set - 2), (int64_t)n);
     }
     const struct step step = call(1, n, 0);
     detector_refuses(&detector, &step, 9);

@@ -21,12 +21,15 @@ static struct step next_step(void)
     return step_of(7, 30, 12, 5, 3, 40);
 }
 
+/* Nothing but this number is at fault: a larger count finds good entries, and a last length of 5 leaves the front's pair number free. */
 static void refuses_number(size_t place, uint64_t value)
 {
-    const struct step step = next_step();
+    const struct step step = step_of(5, 30, 12, 5, 3, 40);
     running(STANDARD, 5);
     for (size_t i = detector.numbers[COUNT] * BRINE_SCORE_DOUBLES; i < BRINE_SCORES; i++)
-        detector.scores[i] = 0; /* a larger count finds good entries */
+        detector.scores[i] = 0;
+    detector_number(&detector, BRINE_ENTRIES, 34);
+    detector.numbers[LENGTH] = 5;
     detector.numbers[place] = value;
     detector_refuses(&detector, &step, 11);
 }
@@ -56,18 +59,24 @@ static void refusal_11_numbers(void)
     refuses_number(OFFSET, 10);
     refuses_number(OFFSET, UINT64_MAX);
     refuses_number(OFFSET, ((uint64_t)1 << 32) + 5);
+    refuses_number(PAIRS + 1, 32);
+    refuses_number(PAIRS + 9, ((uint64_t)1 << 32) + 25);
 }
 
-/* The count's limit without lookahead, and o of an empty deque. */
+/* The count's limit without lookahead, behind a call of frame 100, and o of an empty deque. */
 static void refusal_11_counts(void)
 {
-    struct step step = step_of(2, 1, 0, 5, 3, 40);
+    struct step step = step_of(2, 101, 0, 5, 3, 40);
     detector_make(&detector, STANDARD, 4);
     memset(detector.scores, 0, BRINE_SCORES * sizeof(double));
+    detector_number(&detector, BRINE_ENTRIES, 100);
+    detector.numbers[LAST] = 100;
+    detector.numbers[LENGTH] = 2;
     detector.numbers[COUNT] = BRINE_ENTRIES;
     detector_refuses(&detector, &step, 11);
     detector.numbers[COUNT] = BRINE_ENTRIES - 1;
     EXPECT_NUMBER(detector_step(&detector, &step), 2);
+    step.frame = 1;
     detector_make(&detector, STANDARD, 4);
     detector.numbers[OFFSET] = 1;
     detector_refuses(&detector, &step, 11);
@@ -88,8 +97,10 @@ static void refusal_11_entries(void)
     running(STANDARD, 5);
     for (size_t entry = 0; entry < 10; entry++)
         detector.scores[BRINE_SCORE_DOUBLES * entry + INTER] = -0.0; /* not below 0 */
-    for (size_t entry = 10; entry < BRINE_ENTRIES; entry++)
-        detector.scores[BRINE_SCORE_DOUBLES * entry + INTER] = NAN; /* past the count: no part of the state */
+    for (size_t entry = 10; entry < BRINE_ENTRIES; entry++) { /* past the count: no part of the state */
+        detector.scores[BRINE_SCORE_DOUBLES * entry + INTER] = NAN;
+        detector.numbers[PAIRS + entry] = UINT64_MAX;
+    }
     EXPECT(detector_step(&detector, &step) >= 2);
 }
 
@@ -98,7 +109,7 @@ static void refusal_11_lengths(void)
     static const size_t lengths[][2] = {
         {BRINE_NUMBERS - 1, BRINE_SCORES}, {BRINE_NUMBERS + 1, BRINE_SCORES}, {0, BRINE_SCORES},
         {BRINE_NUMBERS, BRINE_SCORES - 1}, {BRINE_NUMBERS, BRINE_SCORES + 1}, {BRINE_NUMBERS, 0},
-        {BRINE_NUMBERS, BRINE_SCORES - BRINE_SCORE_DOUBLES},
+        {BRINE_NUMBERS, BRINE_SCORES - BRINE_SCORE_DOUBLES}, {PAIRS, BRINE_SCORES},
     };
     const struct step s = next_step();
     running(STANDARD, 5);
@@ -143,8 +154,9 @@ static void refusal_7(void)
     EXPECT_NUMBER(detector_step(&detector, &step), 3); /* at a distance of max, 2^32 - 1 */
     step.frame++;
     detector_refuses(&detector, &step, 7);
-    detector.numbers[LAST] = UINT64_MAX; /* ends a detector: every number is refused */
-    step.frame = 0;
+    detector.numbers[LAST] = UINT64_MAX; /* ends a detector: every number is refused, if the front's pair number is free */
+    detector.numbers[LENGTH] = 5;
+    step = step_of(5, 0, 0, 1, 1, 1);
     detector_refuses(&detector, &step, 7);
 }
 
@@ -241,8 +253,8 @@ static void carried(void)
     detector.numbers[MAX] = huge + 2;
     detector.numbers[FIRST] = huge + 3;
     EXPECT_NUMBER(detector_step(&detector, &step), 2);
-    const uint64_t want[BRINE_NUMBERS] = {64, 48, 8, huge, STANDARD, huge + 1, huge + 2, 5, 30, 7, huge + 3, huge + 2, 10};
-    EXPECT(lent_holds(&detector.lent_numbers, want));
+    const uint64_t want[PAIRS] = {64, 48, 8, huge, STANDARD, huge + 1, huge + 2, 5, 30, 7, huge + 3, huge + 2, 10};
+    EXPECT(detector_holds(&detector, want, 35));
 }
 
 /* The release number is not below 0, in a state too that no run comes to: its first number is 0. */
@@ -252,9 +264,10 @@ static void release_at_0(void)
     running(STANDARD, 5);
     detector.numbers[LAST] = 5;
     detector.numbers[FIRST] = 0;
+    detector_number(&detector, 10, 10);
     EXPECT_NUMBER(detector_step(&detector, &step), 2);
-    const uint64_t want[BRINE_NUMBERS] = {64, 48, 8, 5, STANDARD, 0, UINT32_MAX, 5, 6, 7, 0, 0, 10};
-    EXPECT(lent_holds(&detector.lent_numbers, want));
+    const uint64_t want[PAIRS] = {64, 48, 8, 5, STANDARD, 0, UINT32_MAX, 5, 6, 7, 0, 0, 10};
+    EXPECT(detector_holds(&detector, want, 11));
 }
 
 /* Rule 2: only last number and last length change, and on a first call the first and the release number. */
@@ -263,8 +276,8 @@ static void short_set(void)
     const struct step step = step_of(4, 30, 12, 5, 3, 40);
     running(STANDARD, 5);
     EXPECT_NUMBER(detector_step(&detector, &step), 0);
-    const uint64_t want[BRINE_NUMBERS] = {64, 48, 8, 5, STANDARD, 0, UINT32_MAX, 5, 30, 4, 20, 19, 10};
-    EXPECT(lent_holds(&detector.lent_numbers, want));
+    const uint64_t want[PAIRS] = {64, 48, 8, 5, STANDARD, 0, UINT32_MAX, 5, 30, 4, 20, 19, 10};
+    EXPECT(detector_holds(&detector, want, 34));
     EXPECT(lent_same(&detector.lent_scores));
 }
 

@@ -1,47 +1,58 @@
 #include "columns.h"
 
 #include <inttypes.h>
+#include <stdio.h>
+
+/* By the places of enum brine_double. The widths are for people: with a pair and a release number a line has 78 letters. The largest
+   double alone, which a backward cost can be, is longer than its column. */
+static const struct {
+    const char *name;
+    int width;
+} score_columns[BRINE_SCORE_DOUBLES] = {
+    {"inter", 9}, {"importance", 10}, {"backward", 9}, {"forward", 9}, {"threshold", 9}};
+
+void columns_names(struct page *page, bool csv)
+{
+    for (size_t i = 0; i < BRINE_SCORE_DOUBLES; i++)
+        columns_text(page, csv, score_columns[i].width, score_columns[i].name);
+}
 
 void columns_head(struct page *page, bool csv)
 {
-    if (csv)
-        page_add(page, "frame,cut,inter,importance,backward,forward,threshold");
-    else
-        page_add(page, "%7s %5s %10s %10s %10s %10s %10s", "frame", "cut", "inter", "importance", "backward", "forward",
-                 "threshold");
+    page_add(page, csv ? "%s,%s" : "%7s %5s", "frame", "cut");
+    columns_names(page, csv);
 }
 
-static void add_csv(struct page *page, const struct verdict *verdict)
+/* For people five digits will do; a number that would need an exponent is whole as long as the columns hold it. A NaN has a sign on
+   some machines, which says nothing. */
+static void score_text(char out[NUMBER_ROOM], bool csv, double value)
 {
-    page_add(page, "%" PRIu64 ",%d", verdict->frame, verdict->cut);
+    if (csv || value != value)
+        number_text(out, value);
+    else if (value >= 99999.5 && value < 999999999.5)
+        snprintf(out, NUMBER_ROOM, "%.0f", value);
+    else
+        snprintf(out, NUMBER_ROOM, "%.5g", value);
+}
+
+void columns_score(struct page *page, bool csv, const double *score)
+{
     for (size_t i = 0; i < BRINE_SCORE_DOUBLES; i++) {
         char number[NUMBER_ROOM] = "";
-        if (verdict->scored)
-            number_text(number, verdict->score[i]);
-        page_add(page, ",%s", number);
-    }
-}
-
-static void add_words(struct page *page, const struct verdict *verdict)
-{
-    const char *word = verdict->first ? "first" : verdict->cut ? "cut" : verdict->large ? "large" : ".";
-    page_add(page, "%7" PRIu64 " %5s", verdict->frame, word);
-    for (size_t i = 0; i < BRINE_SCORE_DOUBLES; i++) {
-        if (!verdict->scored)
-            page_add(page, " %10s", "-");
-        else if (verdict->score[i] != verdict->score[i])
-            page_add(page, " %10s", "nan");
-        else
-            page_add(page, " %10.5g", verdict->score[i]);
+        if (score != NULL)
+            score_text(number, csv, score[i]);
+        columns_text(page, csv, score_columns[i].width, number);
     }
 }
 
 void columns_add(struct page *page, bool csv, const struct verdict *verdict)
 {
+    const char *word = verdict->first ? "first" : verdict->cut ? "cut" : verdict->large ? "large" : ".";
     if (csv)
-        add_csv(page, verdict);
+        page_add(page, "%" PRIu64 ",%d", verdict->frame, verdict->cut);
     else
-        add_words(page, verdict);
+        page_add(page, "%7" PRIu64 " %5s", verdict->frame, word);
+    columns_score(page, csv, verdict->scored ? verdict->score : NULL);
 }
 
 void columns_text(struct page *page, bool csv, int width, const char *text)

@@ -4,11 +4,17 @@
 
 #include "driver.h"
 
+enum { PAIR_WIDTH = 6 }; /* for people, of the column that says which pair a score is of */
+
 /* The columns' names, as the beginning of a line. */
 void columns_head(struct page *page, bool csv);
 
 /* A verdict, as the beginning of a line. */
 void columns_add(struct page *page, bool csv, const struct verdict *verdict);
+
+/* The score's columns alone: their names, and the numbers; NULL where there is no score. */
+void columns_names(struct page *page, bool csv);
+void columns_score(struct page *page, bool csv, const double *score);
 
 /* A further column: a text that is right-aligned for people. */
 void columns_text(struct page *page, bool csv, int width, const char *text);

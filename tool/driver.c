@@ -11,8 +11,7 @@ enum {
 };
 
 struct driver {
-    uint64_t numbers[BRINE_NUMBERS];
-    double scores[BRINE_SCORES];
+    struct state state;
     uint32_t mode;
 
     /* The set in hand: pair k of it is frame number + k, so the frame to decide on is the first pair's second one. */
@@ -31,7 +30,7 @@ static enum status start(struct driver *driver, const struct film *film, const s
     driver->most_pairs = settings->lookahead < LARGEST_LISTS ? settings->lookahead + 1 : LARGEST_LISTS;
     const int64_t answer =
         brine_detector_fresh(film->width, film->height, film->depth, settings->lookahead, settings->mode, settings->min,
-                             settings->max, driver->numbers, BRINE_NUMBERS, driver->scores, BRINE_SCORES);
+                             settings->max, driver->state.numbers, BRINE_NUMBERS, driver->state.scores, BRINE_SCORES);
     return answer < 0 ? picture_refused(film->name, film->width, film->height, film->depth, answer) : DONE;
 }
 
@@ -77,6 +76,14 @@ static enum status refused(const struct driver *driver, const struct gauge *gaug
     return say_refused(answer, "%s: frame %" PRIu64, film->name, frame);
 }
 
+/* The score that was decided on, and which pair it is of. */
+static void take_score(const struct state *state, struct verdict *verdict)
+{
+    const uint64_t entry = state->numbers[BRINE_OFFSET];
+    memcpy(verdict->score, state->scores + entry * BRINE_SCORE_DOUBLES, sizeof verdict->score);
+    verdict->scored_pair = state->numbers[BRINE_PAIRS + entry];
+}
+
 /* One call of the detector: a list that the mode does not read is lent empty. */
 static enum status step(struct driver *driver, const struct gauge *gauge, uint64_t previous, struct verdict *verdict)
 {
@@ -84,17 +91,16 @@ static enum status step(struct driver *driver, const struct gauge *gauge, uint64
     const size_t inter = driver->mode == BRINE_MODE_NONE ? 0 : pairs;
     const size_t others = driver->mode == BRINE_MODE_STANDARD ? pairs : 0;
     const int64_t answer = brine_detector_step(
-        driver->numbers, BRINE_NUMBERS, driver->scores, BRINE_SCORES, pairs + 1, verdict->frame, previous,
+        driver->state.numbers, BRINE_NUMBERS, driver->state.scores, BRINE_SCORES, pairs + 1, verdict->frame, previous,
         driver->inter, inter, driver->importance, others, driver->threshold, others);
 
     if (answer < 0)
         return refused(driver, gauge, verdict->frame, answer);
     verdict->cut = answer == 1 || answer == 3;
     verdict->scored = answer >= 2;
-    const double *score = driver->scores + driver->numbers[BRINE_OFFSET] * BRINE_SCORE_DOUBLES;
     if (verdict->scored)
-        memcpy(verdict->score, score, sizeof verdict->score);
-    verdict->release = driver->numbers[BRINE_RELEASE_NUMBER];
+        take_score(&driver->state, verdict);
+    verdict->release = driver->state.numbers[BRINE_RELEASE_NUMBER];
     verdict->measured = driver->mode != BRINE_MODE_NONE;
     verdict->pair = (struct pair){driver->inter[0], driver->importance[0], driver->threshold[0]};
     verdict->large = verdict->measured && !verdict->cut && pair_is_large(&verdict->pair);
@@ -106,11 +112,11 @@ static enum status decide_all(struct driver *driver, struct gauge *gauge, verdic
 {
     const uint64_t first = gauge->film->first;
     uint64_t previous = first;
-    const struct verdict opening = {.frame = first, .first = true, .cut = true};
+    const struct verdict opening = {.frame = first, .first = true, .cut = true, .state = &driver->state};
     enum status status = take(taker, &opening);
 
     for (uint64_t frame = first + 1; status == DONE; frame++) {
-        struct verdict verdict = {.frame = frame};
+        struct verdict verdict = {.frame = frame, .state = &driver->state};
         status = fill(driver, gauge);
         if (status == DONE && driver->pairs == 0)
             return costs_end(gauge->costs);

@@ -12,6 +12,12 @@ struct settings {
     uint64_t max;
 };
 
+/* A detector's state, as the library has it. */
+struct state {
+    uint64_t numbers[BRINE_NUMBERS];
+    double scores[BRINE_SCORES];
+};
+
 /* What was decided on one frame. */
 struct verdict {
     uint64_t frame;
@@ -19,10 +25,12 @@ struct verdict {
     bool cut;    /* a scene begins here; the first frame always begins one */
     bool scored; /* whether there is a score */
     double score[BRINE_SCORE_DOUBLES];
-    uint64_t release; /* frames numbered below may be purged */
-    bool measured;    /* whether there is a measure of this frame and the one before it; it need not be the score's */
+    uint64_t scored_pair; /* the number of the score's pair: the frame's, or the next one's */
+    uint64_t release;     /* frames numbered below may be purged */
+    bool measured;        /* whether there is a measure of this frame and the one before it; it need not be the score's */
     struct pair pair;
-    bool large; /* no cut, and yet the inter cost of this pair reaches its threshold */
+    bool large;                /* no cut, and yet the inter cost of this pair reaches its threshold */
+    const struct state *state; /* after the call. It is the driver's own: only while the verdict is taken */
 };
 
 /* Takes a verdict. Any status but DONE stops the drive. */

@@ -15,6 +15,7 @@ enum {
     OPTION_FIRST,
     OPTION_CUTS,
     OPTION_BARS,
+    OPTION_DUMP,
     OPTION_TIMES,
     OPTION_PURGE,
     OPTION_CSV
@@ -25,9 +26,9 @@ static const struct option known[] = {
     {"min", required_argument, NULL, OPTION_MIN},     {"max", required_argument, NULL, OPTION_MAX},
     {"inter", required_argument, NULL, OPTION_INTER}, {"log", required_argument, NULL, OPTION_LOG},
     {"first", required_argument, NULL, OPTION_FIRST}, {"cuts", no_argument, NULL, OPTION_CUTS},
-    {"bars", no_argument, NULL, OPTION_BARS},         {"times", no_argument, NULL, OPTION_TIMES},
-    {"purge", no_argument, NULL, OPTION_PURGE},       {"csv", no_argument, NULL, OPTION_CSV},
-    WORDS_LAST};
+    {"bars", no_argument, NULL, OPTION_BARS},         {"dump", no_argument, NULL, OPTION_DUMP},
+    {"times", no_argument, NULL, OPTION_TIMES},       {"purge", no_argument, NULL, OPTION_PURGE},
+    {"csv", no_argument, NULL, OPTION_CSV},           WORDS_LAST};
 
 bool mode_read(const char *text, uint32_t *mode)
 {
@@ -74,7 +75,7 @@ static enum status take_form(struct options *options, enum form form)
 {
     const bool other = options->form != FORM_LINES && options->form != form;
     options->form = form;
-    return other ? say_usage("--cuts and --bars are two ways to show a film: ask for one") : DONE;
+    return other ? say_usage("--cuts, --bars and --dump are three ways to show a film: ask for one") : DONE;
 }
 
 static enum status take_option(struct options *options, int option, const char *value)
@@ -100,6 +101,8 @@ static enum status take_option(struct options *options, int option, const char *
         return take_form(options, FORM_CUTS);
     case OPTION_BARS:
         return take_form(options, FORM_BARS);
+    case OPTION_DUMP:
+        return take_form(options, FORM_DUMP);
     default:
         break;
     }
@@ -121,7 +124,7 @@ static enum status fits_together(const struct options *options)
     if (options->form == FORM_BARS && options->csv)
         return say_usage("--bars is for people and --csv for machines: ask for one");
     if (options->form != FORM_LINES && options->purge)
-        return say_usage("--purge is a column of the lines, which --cuts and --bars do not have");
+        return say_usage("--purge goes with the plain lines, and not with --cuts, --bars or --dump");
     return DONE;
 }
 

@@ -4,8 +4,9 @@
 
 #include "driver.h"
 
-/* What stands on a line: a frame with its score, a scene, or a frame with a bar. */
-enum form { FORM_LINES, FORM_CUTS, FORM_BARS };
+/* What stands on a line: a frame with its score, a scene, a frame with a bar, or a frame with its score and below it each entry
+   of the deque. */
+enum form { FORM_LINES, FORM_CUTS, FORM_BARS, FORM_DUMP };
 
 struct options {
     const char *film;

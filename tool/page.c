@@ -56,6 +56,11 @@ void page_free(struct page *page)
     *page = (struct page){0};
 }
 
+void count_text(char out[NUMBER_ROOM], uint64_t count)
+{
+    snprintf(out, NUMBER_ROOM, "%" PRIu64, count);
+}
+
 /* Fifteen digits of a normal double that read back are the fewest, once printf has left out the zeros at their end. A double
    near 0 that is not normal may want fewer, and any other double up to seventeen. */
 void number_text(char out[NUMBER_ROOM], double value)

@@ -22,6 +22,8 @@ void page_free(struct page *page);
 
 enum { NUMBER_ROOM = 32 };
 
+void count_text(char out[NUMBER_ROOM], uint64_t count);
+
 /* The text with the fewest digits that reads back as the same double; "nan" for every NaN. */
 void number_text(char out[NUMBER_ROOM], double value);
 

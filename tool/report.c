@@ -2,16 +2,16 @@
 
 #include "bars.h"
 #include "columns.h"
+#include "dump.h"
 
 #include <inttypes.h>
-#include <stdio.h>
 #include <sys/stat.h>
 #include <unistd.h>
 
 /* A film of so many frames is long; then progress is told every so many. */
 enum { LONG_FILM = 200, PROGRESS_EVERY = 50 };
 
-enum { COUNT_WIDTH = 9, TIME_WIDTH = 13 }; /* of the columns behind the score's */
+enum { RELEASE_WIDTH = 7, COUNT_WIDTH = 9, TIME_WIDTH = 13 }; /* of the columns behind the score's */
 
 void report_start(struct report *report, const struct options *options, const struct film *film)
 {
@@ -21,82 +21,131 @@ void report_start(struct report *report, const struct options *options, const st
     *report = (struct report){.options = options, .film = film, .watched = watched};
 }
 
+/* What stands behind a score, a text for each column. */
+struct behind {
+    const char *pair, *release, *large, *time, *purge;
+};
+
+/* For people the pair stands beside its score. For machines it stands behind the columns that a reader may count, and the purge stays
+   the last one. */
+static void end_line(struct report *report, const struct behind *texts)
+{
+    const struct options *options = report->options;
+    struct page *page = &report->page;
+    const bool csv = options->csv;
+
+    if (!csv)
+        columns_text(page, csv, PAIR_WIDTH, texts->pair);
+    columns_text(page, csv, RELEASE_WIDTH, texts->release);
+    if (csv)
+        columns_text(page, csv, 0, texts->large);
+    if (options->times)
+        columns_text(page, csv, TIME_WIDTH, texts->time);
+    if (csv)
+        columns_text(page, csv, 0, texts->pair);
+    if (options->purge)
+        columns_text(page, csv, COUNT_WIDTH, texts->purge);
+    page_add(page, "\n");
+}
+
+/* The same for lines that have a time alone behind them, if that. */
+static void end_short(struct report *report, const char *time)
+{
+    if (report->options->times)
+        columns_text(&report->page, report->options->csv, TIME_WIDTH, time);
+    page_add(&report->page, "\n");
+}
+
 static void add_head(struct report *report)
 {
+    static const struct behind names = {"pair", "release", "large", "time", "purge"};
     const struct options *options = report->options;
     struct page *page = &report->page;
 
-    if (options->form == FORM_CUTS) {
+    if (options->form == FORM_CUTS)
         page_add(page, "%s\n", options->csv ? "first,last,frames,time" : "  first      last    frames          time");
-        return;
-    }
-    if (options->form == FORM_BARS)
+    else if (options->form == FORM_BARS) {
         bars_head(page);
-    else {
+        end_short(report, names.time);
+    } else if (options->form == FORM_DUMP && options->csv) {
+        dump_head(page);
+        end_short(report, names.time);
+    } else {
         columns_head(page, options->csv);
-        columns_text(page, options->csv, COUNT_WIDTH, "release");
+        end_line(report, &names);
     }
-    if (options->csv)
-        page_add(page, ",large");
-    if (options->times)
-        columns_text(page, options->csv, TIME_WIDTH, "time");
-    if (options->purge)
-        columns_text(page, options->csv, COUNT_WIDTH, "purge");
-    page_add(page, "\n");
 }
 
-static void add_time(struct report *report, uint64_t frame)
+static void film_time(const struct report *report, char out[NUMBER_ROOM], uint64_t frame)
 {
-    char time[NUMBER_ROOM];
-    time_text(time, report->film->rate, frame - report->film->first, report->options->csv);
-    columns_text(&report->page, report->options->csv, TIME_WIDTH, time);
+    time_text(out, report->film->rate, frame - report->film->first, report->options->csv);
 }
 
-/* The film's frame that may go after this call and could not before. From the first call on the release number rises by one
-   at the most, so each frame is named once. */
-static void add_purge(struct report *report, const struct verdict *verdict)
-{
-    char frame[NUMBER_ROOM] = "";
-    if (report->kept < verdict->release)
-        snprintf(frame, sizeof frame, "%" PRIu64, report->kept++);
-    columns_text(&report->page, report->options->csv, COUNT_WIDTH, frame);
-}
-
+/* A purge is the film's frame that may go after this call and could not before. From the first call on the release number rises
+   by one at the most, so each frame is named once. */
 static void add_line(struct report *report, const struct verdict *verdict)
 {
-    const struct options *options = report->options;
-    struct page *page = &report->page;
+    char pair[NUMBER_ROOM] = "", release[NUMBER_ROOM], time[NUMBER_ROOM], purge[NUMBER_ROOM] = "";
 
-    if (options->form == FORM_BARS)
-        bars_add(page, verdict);
-    else {
-        columns_add(page, options->csv, verdict);
-        page_add(page, options->csv ? ",%" PRIu64 : " %9" PRIu64, verdict->release);
+    if (verdict->scored)
+        count_text(pair, verdict->scored_pair);
+    count_text(release, verdict->release);
+    film_time(report, time, verdict->frame);
+    if (report->kept < verdict->release)
+        count_text(purge, report->kept++);
+    columns_add(&report->page, report->options->csv, verdict);
+    end_line(report, &(struct behind){pair, release, verdict->large ? "1" : "0", time, purge});
+}
+
+static void add_bar(struct report *report, const struct verdict *verdict)
+{
+    char time[NUMBER_ROOM];
+    film_time(report, time, verdict->frame);
+    bars_add(&report->page, verdict);
+    end_short(report, time);
+}
+
+/* For people the deque stands below the frame's line. For machines all lines are alike: each is an entry of the deque. */
+static void add_dump(struct report *report, const struct verdict *verdict)
+{
+    char time[NUMBER_ROOM];
+    if (!report->options->csv) {
+        add_line(report, verdict);
+        dump_below(&report->page, verdict);
+        return;
     }
-    if (options->csv)
-        page_add(page, ",%d", verdict->large);
-    if (options->times)
-        add_time(report, verdict->frame);
-    if (options->purge)
-        add_purge(report, verdict);
-    page_add(page, "\n");
+    film_time(report, time, verdict->frame);
+    for (size_t line = 0; line < dump_lines(verdict); line++) {
+        dump_line(&report->page, verdict, line);
+        end_short(report, time);
+    }
 }
 
 /* The scene in hand. Where its end is not known, since the film broke off, nothing is said of it. */
 static void add_scene(struct report *report, uint64_t end, bool known)
 {
     const bool csv = report->options->csv;
-    char last[NUMBER_ROOM] = "", frames[NUMBER_ROOM] = "";
+    char last[NUMBER_ROOM] = "", frames[NUMBER_ROOM] = "", time[NUMBER_ROOM];
 
     if (known) {
-        snprintf(last, sizeof last, "%" PRIu64, end - 1);
-        snprintf(frames, sizeof frames, "%" PRIu64, end - report->scene);
+        count_text(last, end - 1);
+        count_text(frames, end - report->scene);
     }
+    film_time(report, time, report->scene);
     page_add(&report->page, csv ? "%" PRIu64 : "%7" PRIu64, report->scene);
     columns_text(&report->page, csv, COUNT_WIDTH, last);
     columns_text(&report->page, csv, COUNT_WIDTH, frames);
-    add_time(report, report->scene);
+    columns_text(&report->page, csv, TIME_WIDTH, time);
     page_add(&report->page, "\n");
+}
+
+/* The scene in hand ends where another one begins. */
+static void take_cut(struct report *report, const struct verdict *verdict)
+{
+    if (!verdict->cut || verdict->first)
+        return;
+    add_scene(report, verdict->frame, true);
+    report->scene = verdict->frame;
 }
 
 static enum status put(struct report *report)
@@ -118,19 +167,15 @@ static void tell_progress(struct report *report)
 
 enum status report_take(void *taker, const struct verdict *verdict)
 {
+    static void (*const add[])(struct report *, const struct verdict *) = {
+        [FORM_LINES] = add_line, [FORM_CUTS] = take_cut, [FORM_BARS] = add_bar, [FORM_DUMP] = add_dump};
     struct report *report = taker;
-    const bool cuts = report->options->form == FORM_CUTS;
 
     if (verdict->first) {
         report->kept = report->scene = verdict->frame;
         add_head(report);
     }
-    if (!cuts)
-        add_line(report, verdict);
-    else if (verdict->cut && !verdict->first) {
-        add_scene(report, verdict->frame, true);
-        report->scene = verdict->frame;
-    }
+    add[report->options->form](report, verdict);
     report->frames++;
     report->cuts += verdict->cut && !verdict->first;
     report->large += verdict->large;

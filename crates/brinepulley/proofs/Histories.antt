@@ -15,7 +15,9 @@ use Rattle.settings.specs.declared.Settings.{Settings}
 use Rattle.state.specs.State.{View, Call}
 use Rattle.state.specs.Refusals.{stepFault}
 use Rattle.detector.specs.Step.{Verdict, stepOf}
+use Rattle.detector.specs.Numbers.{AlwaysNumbered}
 use Rattle.detector.proofs.Cases.{step-cases}
+use Rattle.detector.proofs.Numbered.{always-numbered}
 use Rattle.detector.proofs.Histories.{Shows}
 use Rattle.detector.proofs.Makes.{Makes}
 use Rattle.lent.specs.Lent.{freshFault, lentStep}
@@ -49,6 +51,10 @@ c-shows = record {
   replies = λ p q p′ q′ c d r r′ w w′ h h′ e.
       h .0 ∙ ap (λ (a : Answer Verdict). coded (decided a)) (answers p c w ∙ e ∙ sym (answers p′ d w′)) ∙ sym (h′ .0);
 }
+
+-- so the numbers in the places are always in order
+pub c-numbered : AlwaysNumbered inC seen
+c-numbered = always-numbered inC c-shows
 
 -- every call has such a result, and so has every fresh detector that is not refused
 abbrev pub c-makes : Makes inC

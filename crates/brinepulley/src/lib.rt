@@ -237,7 +237,8 @@ pub extern "C" fn brine_satd8x8(first: &[u8], second: &[u8]) -> i64
     code::whole(satd::satd8x8(first, second))
 }
 
-// A fresh detector in its lent places: 0, and its numbers. It has no entry, so no score is written.
+// A fresh detector in its lent places: 0, and its first thirteen numbers. It has no entry, so neither a score nor a pair number is
+// written.
 #[no_mangle]
 pub extern "C" fn brine_detector_fresh(
     width: usize,

@@ -34,7 +34,6 @@ pub record Begun (g : Settings) (k n : ℕ) (t : Turn) : Type 0 where
   pub fewer : lookaheadOffset g ≡ normalLookahead → length (t .entries) ≤ normalLookahead + normalLookahead
   pub spare : normalLookahead + lookaheadOffset g ≤ length (t .entries) → t .offset < length (t .entries)
   pub sound : Sound (t .entries)
-  pub some : 0 < length (t .entries)
   pub order : InOrder 1 (numbersOf (t .entries))
   pub next : t .again ≡ false → n + t .offset ≡ suc (getD (numbersOf (t .entries)) 0 0)
   pub twice : t .again ≡ true → (t .offset + 1 < k) × (n + t .offset ≡ getD (numbersOf (t .entries)) 0 0) × InOrder 0 (numbersOf (t .entries))
@@ -110,7 +109,6 @@ module _ (s : View) (c : Call) (f : Fine s c) (later : lookaheadOffset (s .setti
             fewer = λ h. omega arith;
             spare = λ h. omega arith;
             sound = scored o (omega arith);
-            some = omega arith;
             order = rw ns (order-more 0 _ (pairs-order (c .number) o));
             next = λ h. rw ns (sym (pairs-front (c .number) o (omega (arith, pairs-long (c .number) o))));
             twice = λ h. absurd (true≢false (sym h));
@@ -126,7 +124,6 @@ module _ (s : View) (c : Call) (f : Fine s c) (later : lookaheadOffset (s .setti
             fewer = λ h. omega (arith, ltb-false (o + 1) k (and-right (ltb 0 o) (ltb (o + 1) k) q (lt-ltb 0 o (omega arith))));
             spare = λ h. omega arith;
             sound = scored (k - 1) (omega arith);
-            some = omega arith;
             order = rw ns (order-more 0 _ (pairs-order (c .number) (k - 1)));
             next = λ h. absurd (true≢false h);
             twice = λ h. (omega arith, rw ns (omega (arith, pairs-front (c .number) (k - 1) (omega (arith, pairs-long (c .number) (k - 1))))), rw ns (pairs-order (c .number) (k - 1)));
@@ -139,7 +136,6 @@ module _ (s : View) (c : Call) (f : Fine s c) (later : lookaheadOffset (s .setti
             fewer = f .state .fewer;
             spare = λ h. i;
             sound = f .state .sound;
-            some = some;
             order = f .state .order;
             next = λ h. front some;
             twice = λ h. absurd (true≢false (sym h));

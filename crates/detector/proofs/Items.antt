@@ -40,6 +40,10 @@ pub pairs-front : (n k : ℕ) → 0 < length (pairsFrom n k) → suc (getD (pair
 pairs-front n zero h = absurd (omega arith)
 pairs-front n (suc k) h = omega arith
 
+pub pairs-more : (n k : ℕ) (rest : List ℕ) → 0 < k → pairsFrom n (suc k) ++ rest ≡ suc (getD (pairsFrom n k ++ rest) 0 0) ∷ (pairsFrom n k ++ rest)
+pairs-more n zero rest h = absurd (omega arith)
+pairs-more n (suc k) rest h = let e : n + suc k ≡ suc (n + k) = omega arith in rw e
+
 pub pairs-long : (n k : ℕ) → length (pairsFrom n k) ≡ k
 pairs-long n zero = refl
 pairs-long n (suc k) = ap suc (pairs-long n k)

@@ -10,4 +10,5 @@ pub mod Release
 pub mod Unique
 pub mod Histories
 pub mod Makes
+pub mod Numbered
 pub mod Contracts

@@ -160,9 +160,6 @@ module _ (s : View) (c : Call) (e : stateFault s ≡ 0) where
   pub scored-passes : stepFault s c ≡ 0 → lookaheadOffset (s .settings) < c .setLength → isNone (s .settings) ≡ false → stateFault (scoredOf s c (progressOf s c) .state) ≡ 0
   scored-passes q l m = kept s (c .setLength) (c .number) (progressOf s c) (well s e .settled) (fine s c q .begun) m (good s c (fine s c q) l m)
 
-  pub accepted-passes : stepFault s c ≡ 0 → stateFault (acceptedOf s c .state) ≡ 0
-  accepted-passes q = accepted-cases s c (λ o. stateFault (o .state) ≡ 0) (bare-passes q) (scored-passes q)
-
   pub step-passes : stateFault (stepOf s c .state) ≡ 0
   step-passes = step-cases s c (λ o. stateFault (o .state) ≡ 0) (λ h. e) bare-passes scored-passes
 
@@ -198,6 +195,21 @@ module _ (s : View) (c : Call) (e : ScenecutResult) where
       stands q l m h =
           let same : getD (t .entries) (t .offset) noScore ≡ e = cc in
           entry-kept (s .settings) (c .number) t (good s c (fine s c q) l m) (ltb (normalLookahead + lookaheadOffset (s .settings)) (length (t .entries))) refl ∙ same
+
+-- a step with a score leaves an entry
+pub scored-some : (s : View) (c : Call) → stepFault s c ≡ 0 → lookaheadOffset (s .settings) < c .setLength → isNone (s .settings) ≡ false
+    → 0 < length (scoredOf s c (progressOf s c) .state .entries)
+scored-some s c q l m = by (ltb (normalLookahead + lookaheadOffset (s .settings)) (length (t .entries))) refl
+  where
+    t : Turn
+    t = progressOf s c
+
+    by : (b : Bool) → ltb (normalLookahead + lookaheadOffset (s .settings)) (length (t .entries)) ≡ b
+        → 0 < length (cond b (take (length (t .entries) - 1) (t .entries)) (t .entries))
+    by true e =
+        let w = good s c (fine s c q) l m in
+        omega (arith, w .spare (ltb-true _ _ e), length-take-le (length (t .entries) - 1) (t .entries) (omega arith))
+    by false e = omega (arith, good s c (fine s c q) l m .inside)
 
 then-passes : (before : Outcome) (c : Call) → stateFault (before .state) ≡ 0 → stateFault (thenStep before c .state) ≡ 0
 then-passes before c e = by (before .answer)

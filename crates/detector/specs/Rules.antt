@@ -49,11 +49,15 @@ pub record Turn : Type 0 where
 -- ---- 4. "Empty deque: if o > 0 and L > o + 1, score items 0 to o − 1. Otherwise score items 0 to L − 2 with o as it is, then set
 -- o = L − 2."
 
+-- "if o > 0 and L > o + 1"
+abbrev pub startsAhead : ℕ → ℕ → Bool
+startsAhead o long = ltb 0 o && ltb (o + 1) long
+
 abbrev pub rule4 : Settings → ℕ → ℕ → (ℕ → Measure) → ℕ → List ScenecutResult → Turn
 rule4 g long n item o l =
     let items = itemsOf (isFast g) (fastThreshold g) o n item in
     cond (eqb (length l) 0)
-    (cond (ltb 0 o && ltb (o + 1) long)
+    (cond (startsAhead o long)
     (record { entries = items o l; offset = o; again = false })
     (record { entries = items (long - 1) l; offset = long - 2; again = true }))
     (record { entries = l; offset = o; again = false })

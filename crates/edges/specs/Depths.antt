@@ -35,7 +35,7 @@ quarters n = round binary64 false n 4
 -- whether the importance of a block of 0 against one of x is reached at a depth
 abbrev isReached : ℕ → ℕ → Value
 isReached depth x =
-    ofAnswer (λ (y : Float). truth (reached (importanceThreshold (settings depth)) (scoreFrom y y y y y))) (importanceOf deep depth block (flat 0) block (flat x))
+    ofAnswer (λ (y : Float). truth (reached (importanceThreshold (settings depth)) (scoreFrom 0 y y y y y))) (importanceOf deep depth block (flat 0) block (flat x))
 
 -- the SATD of a block against the flat sample of a depth
 abbrev satd : ℕ → List ℕ → Value

@@ -73,7 +73,7 @@ settings ahead mode least most = record {
 }
 
 abbrev isReached : Answer Float → Value
-isReached = ofAnswer (λ (x : Float). truth (reached (importanceThreshold (settings 4 modeStandard 0 100)) (scoreFrom x x x x x)))
+isReached = ofAnswer (λ (x : Float). truth (reached (importanceThreshold (settings 4 modeStandard 0 100)) (scoreFrom 0 x x x x x)))
 
 -- None mode, lookahead 0, L 1, min 5, max 3
 abbrev noneAt : ℕ → Outcome

@@ -27,12 +27,14 @@ use Rattle.state.proofs.Well.{well}
 use Rattle.detector.specs.Fresh.{freshView}
 use Rattle.detector.specs.Step.{Verdict, Outcome, isRefused, stepOf}
 use Rattle.detector.specs.Runs.{compared}
+use Rattle.detector.specs.Numbers.{AlwaysNumbered}
 use Rattle.detector.proofs.Cases.{step-refused}
 use Rattle.detector.proofs.Left.{entries-few}
 use Rattle.detector.proofs.Reach.{fresh-passes, step-passes}
 use Rattle.detector.proofs.Unique.{answerBy, answer-only}
 use Rattle.detector.proofs.Histories.{Shows, decided-is}
 use Rattle.detector.proofs.Makes.{Makes, answer-back}
+use Rattle.detector.proofs.Numbered.{always-numbered}
 use Rattle.lent.specs.Places.{offsetPlace, firstNumberPlace, releasePlace, countPlace, pairsPlace, numbersLong, scoreLong, scoresLong, isState, frontScore, scoresOf, stateOf, settingNumbers, callNumbers, doubles, placed}
 use Rattle.lent.specs.Lent.{freshFault, freshNumbers, lentStep, pairsBy, numbersAfter, scoresAfter}
 use Rattle.lent.specs.Histories.{Places, Leaves, byPlaces, numberAt, doubleAt, pairAt, comparedNumbers, SamePlaces}
@@ -135,6 +137,10 @@ places-show = record {
   tells = λ p q c a w d. ap (λ (x : Answer Verdict). not (isRefused x)) (d .0 ∙ answers p c w) ∙ decided-is (seen p) c;
   replies = λ p q p′ q′ c d a b w w′ h h′ e. answer-only a b (h .0 ∙ answers p c w ∙ e ∙ sym (h′ .0 ∙ answers p′ d w′));
 }
+
+-- so the numbers in the places are always in order
+pub places-numbered : AlwaysNumbered byPlaces seen
+places-numbered = always-numbered byPlaces places-show
 
 -- every call has such a result, and so has every fresh detector that is not refused
 abbrev pub placesAfter : Places → Call → Places

@@ -7,8 +7,7 @@ use mathlib.Core.Option.{Option, none, some}
 use Prim.Native.Nat.{ℕ, zero, suc, _+_, _≤_, _<_}
 use native.Mathlib.Omega.{arith}
 use lib.Ieee.{Float}
-use lib.ListN.{length, take, drop, getD, List·getD-append}
-use lib.Seq.{getD-append-add, getD-take, length-take-le}
+use lib.ListN.{length, take, drop, getD}
 use Rattle.answer.specs.Answer.{gives}
 use Rattle.answer.proofs.Laws.{lent-written}
 use Rattle.settings.specs.declared.Settings.{Settings}
@@ -22,7 +21,7 @@ use Rattle.detector.specs.Step.{Verdict, Outcome, stepOf}
 use Rattle.detector.proofs.Cases.{decided-accepted, leaves}
 use Rattle.detector.proofs.Reach.{scoreIn, score-stands}
 use Rattle.detector.proofs.Left.{settings-kept, entries-kept, entries-few}
-use Rattle.lent.specs.Places.{numbersLong, settingsLong, callLong, pairsPlace, countPlace, scoreLong, isState, settingsOf, scoresOf, entriesOf, stateOf, settingNumbers, callNumbers, pairsPlaced, placed}
+use Rattle.lent.specs.Places.{numbersLong, settingsLong, callLong, pairsPlace, countPlace, scoreLong, isState, settingsOf, scoresOf, entriesOf, stateOf, settingNumbers, callNumbers, placed}
 use Rattle.lent.specs.Lent.{freshFault, freshNumbers, lentStep, pairsBy, numbersAfter, scoresAfter}
 use Rattle.lent.proofs.Sizes.{state-long}
 use Rattle.lent.proofs.Numbers.{written, same-settings, called, behind}

@@ -21,7 +21,7 @@ use Rattle.lent.specs.Places.{settingsLong, pairsPlace, isState, stateOf
 abbrev pub freshFault : List ℕ → List Float → Settings → ℕ
 freshFault ns xs g = refusal 11 (not (isState ns xs)) orElse settingsFault g
 
--- the numbers of a fresh state, which has no entry: "`fresh` writes the first thirteen and leaves the others"
+-- the numbers of a fresh state, which has no entry: the first thirteen are written, and the pair numbers stay
 abbrev pub freshNumbers : List ℕ → List Float → Settings → List ℕ
 freshNumbers ns xs g = lentAfter (freshFault ns xs g) (settingNumbers g ++ callNumbers (freshView g) ++ drop pairsPlace ns) ns
 
@@ -30,7 +30,7 @@ freshNumbers ns xs g = lentAfter (freshFault ns xs g) (settingNumbers g ++ callN
 abbrev pub lentStep : List ℕ → List Float → Call → Outcome
 lentStep ns xs c = cond (isState ns xs) (stepOf (stateOf ns xs) c) (record { answer = refused 11; state = stateOf ns xs })
 
--- "an accepted call with a score writes the pair numbers up to the count; one without a score writes none of them"
+-- an accepted call with a score writes the entries' pair numbers, up to the count; one without a score writes none
 abbrev pub pairsBy : Option ScenecutResult → View → List ℕ → List ℕ
 pairsBy none s ps = ps
 pairsBy (some e) s ps = pairsPlaced (s .entries) ps

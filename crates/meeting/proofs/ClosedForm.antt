@@ -69,9 +69,9 @@ forwardCost i later = forwardFrom (cost i) true zeroF (take span later)
 
 -- the entry of a pair, by the later pairs' inter costs and the earlier pairs
 abbrev pub entryOf : Bool → Float → List Float → Item → List Item → ScenecutResult
-entryOf true level later i earlier = fastScore level (cost i)
+entryOf true level later i earlier = fastScore level (i .pair) (cost i)
 entryOf false level later i earlier =
-    scoreFrom (cost i) (i .measure .importance) (backwardCost i earlier) (forwardCost i later) (i .measure .threshold)
+    scoreFrom (i .pair) (cost i) (i .measure .importance) (backwardCost i earlier) (forwardCost i later) (i .measure .threshold)
 
 -- the entries of all pairs that were scored, where `later` were scored after them
 abbrev pub closedEntriesOf : Bool → Float → List Float → List Item → List ScenecutResult

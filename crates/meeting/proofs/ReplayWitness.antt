@@ -17,7 +17,7 @@ use Rattle.plane.specs.Planes.{badSide, depthFault}
 use Rattle.scale.specs.Scale.{sizeFault, factorBy, scaleOf}
 use Rattle.settings.specs.declared.Settings.{Settings}
 use Rattle.settings.specs.Settings.{isScaled, fastThreshold, settingsFault}
-use Rattle.score.specs.Search.{anyOf}
+use Rattle.score.specs.Search.{anyOf, countOf}
 use Rattle.score.specs.Scores.{walkBack, backwardOf}
 use Rattle.state.specs.State.{View, Call, call}
 use Rattle.state.specs.declared.State.{State}
@@ -81,7 +81,7 @@ computed : Ends standard (oldCalls earlyStandard lateStandard last 6) standardRu
     × Ends none (noneCalls (nan ∷ [])) (noneRun (nan ∷ [])) 0
 unfolding
     acceptedAmong stateAfter successive table stepOf acceptedOf stepFault stateFault numberFault lengthFault stopFault listsFault
-    settingsFault sizeFault depthFault badSide anyOf walkBack backwardOf isScaled fastThreshold answered factorBy scaleOf _orElse_ ofBits
+    settingsFault sizeFault depthFault badSide anyOf countOf walkBack backwardOf isScaled fastThreshold answered factorBy scaleOf _orElse_ ofBits
     ofInt sub mul div lt le eq
 computed = ((refl, refl), (refl, refl), (refl, refl), (refl, refl), (refl, refl), (refl, refl))
 

@@ -20,7 +20,7 @@ use Rattle.scale.specs.Scale.{sizeFault, factorBy, scaleOf, modeFast, modeStand
 use Rattle.settings.specs.declared.Settings.{Settings}
 use Rattle.settings.specs.Settings.{normalLookahead, isScaled, fastThreshold, settingsFault}
 use Rattle.score.specs.declared.Measure.{Measure}
-use Rattle.score.specs.Search.{anyOf}
+use Rattle.score.specs.Search.{anyOf, countOf}
 use Rattle.score.specs.Scores.{zeroF, walkBack, backwardOf}
 use Rattle.state.specs.State.{Call, call}
 use Rattle.state.specs.Refusals.{stateFault, numberFault, lengthFault, stopFault, listsFault, stepFault}
@@ -136,7 +136,7 @@ tested : ((acceptedAmong (freshView standard) (oldCalls earlyStandard lateStanda
     × (acceptedAmong (freshView fast) (newCalls newFast otherwise 1) ≡ newAccepted newFast otherwise 1))
 unfolding
     acceptedAmong successive table stepOf acceptedOf stepFault stateFault numberFault lengthFault stopFault listsFault settingsFault
-    sizeFault depthFault badSide anyOf walkBack backwardOf isScaled fastThreshold answered factorBy scaleOf _orElse_ ofBits ofInt sub mul div
+    sizeFault depthFault badSide anyOf countOf walkBack backwardOf isScaled fastThreshold answered factorBy scaleOf _orElse_ ofBits ofInt sub mul div
     lt le eq
 tested = ((refl, refl), (refl, refl))
 
@@ -262,5 +262,5 @@ releaseAfter cs = stateAfter (freshView fast) cs .release
 pub releases-apart : (releaseAfter (oldAccepted earlyFast oldFast otherwise 1) ≡ 0) × (releaseAfter (newAccepted newFast otherwise 1) ≡ 2)
 unfolding
     stateAfter successive table stepOf acceptedOf stepFault stateFault numberFault lengthFault stopFault listsFault settingsFault
-    sizeFault depthFault badSide anyOf isScaled fastThreshold answered factorBy scaleOf _orElse_ ofBits ofInt sub mul div lt le eq
+    sizeFault depthFault badSide anyOf countOf isScaled fastThreshold answered factorBy scaleOf _orElse_ ofBits ofInt sub mul div lt le eq
 releases-apart = (refl, refl)

@@ -1,18 +1,17 @@
 -- Pair numbers and their neighbours: how many there are, which stand at a place, and which of them scoring and dropping leave.
 -- Assumes nothing.
-use mathlib.Core.Path.{_≡_, refl, sym, ap, _∙_}
-use mathlib.Core.Bool.{Bool, true, false, not, _||_}
+use mathlib.Core.Path.{_≡_, refl, ap}
+use mathlib.Core.Bool.{Bool, true, false}
 use mathlib.Core.List.{List, [], _∷_}
-use Prim.Native.Nat.{ℕ, zero, suc, _+_, _-_, _≤_, _<_}
+use Prim.Native.Nat.{ℕ, zero, suc, _-_, _<_}
 use native.Mathlib.Omega.{arith}
 use borrow.Author.Tests.{eq-eqb, ne-eqb}
-use lib.Dec.{eqb}
 use lib.ListN.{length, take, getD}
 use lib.Ieee.{Float}
 use Rattle.score.specs.declared.ScenecutResult.{ScenecutResult}
 use Rattle.score.specs.declared.Measure.{Measure}
 use Rattle.score.specs.Deque.{noScore}
-use Rattle.score.specs.Scores.{withForward, updatedFrom, scoreOf}
+use Rattle.score.specs.Scores.{updatedFrom, scoreOf}
 use Rattle.score.specs.Numbers.{numbersOf, neighboursFrom, neighbours, areEqual, areAstray}
 
 -- ---- the numbers

@@ -1,18 +1,15 @@
 // The pair numbers of a deque: from front to back they fall by one, save where a first set's repeat stands.
 ghost use mathlib.Core.Path.{_≡_};
-ghost use mathlib.Core.Bool.{_||_};
 ghost use Prim.Native.Nat.{_≤_};
-ghost use lib.Dec.{ltb};
 ghost use Rattle.settings.specs.Settings.{room};
-ghost use Rattle.score.specs.Search.{anyOf, countOf};
 ghost use Rattle.score.specs.Deque.{content};
-ghost use Rattle.score.specs.Numbers.{numbersOf, neighbours, areEqual, areAstray};
+ghost use Rattle.score.specs.Numbers.{misnumbered};
 use super::ScoreDeque;
 
-// The same, of a deque whose count is its entries'. Nothing is added to a number: it may be the largest of its type.
+// What `is_misnumbered` says, of a deque whose count is its entries'. Nothing is added to a number: it may be the largest of its type.
 fn any_misnumbered(d: ScoreDeque) -> bool
     requires { ⌜ d .count ≤ room ⌝ }
-    ensures { λ r. ⌜ r ≡ anyOf areAstray (neighbours (numbersOf (content d))) || ltb 1 (countOf areEqual (neighbours (numbersOf (content d)))) ⌝ }
+    ensures { λ r. ⌜ r ≡ misnumbered (content d) ⌝ }
 {
     let count = d.count;
     let mut equal: usize = 0;
@@ -37,7 +34,7 @@ fn any_misnumbered(d: ScoreDeque) -> bool
 
 // Whether two neighbours' numbers neither fall by one nor are equal, or more than one pair of neighbours is equal.
 pub fn is_misnumbered(d: ScoreDeque) -> bool
-    ensures { λ r. ⌜ r ≡ anyOf areAstray (neighbours (numbersOf (content d))) || ltb 1 (countOf areEqual (neighbours (numbersOf (content d)))) ⌝ }
+    ensures { λ r. ⌜ r ≡ misnumbered (content d) ⌝ }
 {
     let e = d.within();
     any_misnumbered(e)

@@ -24,16 +24,6 @@ pub not-both : (a b : Bool) → (a ≡ true → b ≡ false) → a && b ≡ fals
 not-both true b f = f refl
 not-both false b f = refl
 
--- .. where its second part holds
-pub and-left : (a b : Bool) → a && b ≡ false → b ≡ true → a ≡ false
-and-left false b e h = refl
-and-left true b e h = let z : _≡_ {A = ℕ} 0 1 = cc in absurd (omega arith)
-
-pub not-two : (a b : Bool) → (b ≡ true → a ≡ false) → a && b ≡ false
-not-two false b f = refl
-not-two true true f = f refl
-not-two true false f = refl
-
 -- a conjunction that holds
 pub and-both : (a b : Bool) → a && b ≡ true → (a ≡ true) × (b ≡ true)
 and-both true b e = (refl, e)

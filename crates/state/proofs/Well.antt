@@ -10,11 +10,11 @@ use borrow.Author.Tests.{ltb-true, ltb-false, leb-false, lt-ltb, le-ltb, lt-leb,
 use Rattle.answer.proofs.Laws.{or-no, passed}
 use Rattle.settings.specs.Settings.{room, normalLookahead, lookaheadOffset, isNone, settingsFault}
 use Rattle.score.specs.Deque.{noScore}
-use Rattle.score.specs.Numbers.{numbersOf}
+use Rattle.score.specs.Numbers.{numbersOf, numbersAstray, repeatedTwice, misnumbered}
 use Rattle.score.proofs.Order.{InOrder}
 use Rattle.state.specs.State.{View}
-use Rattle.state.specs.Refusals.{settingsForbidden, overRoom, overWindow, offsetPast, offsetAstray, entriesInNone, entriesBeforeCall, unfit, costForbidden, numbersAstray, repeatedTwice, misnumbered, frontAstray, stateFault}
-use Rattle.state.proofs.Tests.{and-right, and-left, not-both, not-two, not-eqb, positive}
+use Rattle.state.specs.Refusals.{settingsForbidden, overRoom, overWindow, offsetPast, offsetAstray, entriesInNone, entriesBeforeCall, unfit, costForbidden, frontAstray, stateFault}
+use Rattle.state.proofs.Tests.{and-right, not-both, not-eqb, positive}
 
 pub record Well (s : View) : Type 0 where
   pub settled : settingsFault (s .settings) ≡ 0
@@ -53,8 +53,8 @@ well s e =
       fewer = λ h. ltb-false _ count (and-right (eqb a normalLookahead) _ (p3 .0) (eq-eqb _ _ h));
       within = λ h. leb-false count o (and-right (not (eqb count 0)) _ (p4 .0) (some h));
       empty = λ h. not-eqb o a (and-right (eqb count 0) _ (p5 .0) (eq-eqb _ _ h));
-      moded = λ h. and-left (isNone g) _ (p6 .0) (some h);
-      called = λ h. eqb-false last 0 (and-left (eqb last 0) _ (p6 .1) (some h));
+      moded = λ h. and-right (not (eqb count 0)) _ (p6 .0) (some h);
+      called = λ h. eqb-false last 0 (and-right (not (eqb count 0)) _ (p6 .1) (some h));
       sound = q1 .0;
       order = record { falls = q3 .0; equals = ltb-false 1 _ (q3 .1) };
       front = λ h k. not-eqb _ _ (and-right (ltb a (s .lastLength)) _ (and-right (not (eqb count 0)) _ (q2 .1) (some h)) (lt-ltb _ _ k));
@@ -75,8 +75,8 @@ passes s w =
     let empty : offsetAstray g count o ≡ false = not-both (eqb count 0) _ (λ t. ap not (eq-eqb o a (w .empty (eqb-true count 0 t)))) in
     let last = s .lastNumber in
     let some : not (eqb count 0) ≡ true → 0 < count = λ t. positive count (eqb-false count 0 (not-true _ t)) in
-    let moded : entriesInNone g count ≡ false = not-two (isNone g) _ (λ t. w .moded (some t)) in
-    let called : entriesBeforeCall last count ≡ false = not-two (eqb last 0) _ (λ t. ne-eqb last 0 (w .called (some t))) in
+    let moded : entriesInNone g count ≡ false = not-both (not (eqb count 0)) _ (λ t. w .moded (some t)) in
+    let called : entriesBeforeCall last count ≡ false = not-both (not (eqb count 0)) _ (λ t. ne-eqb last 0 (w .called (some t))) in
     let once : repeatedTwice (s .entries) ≡ false = le-ltb 1 _ (w .order .equals) in
     let front : frontAstray g last (s .lastLength) o (s .entries) ≡ false
     = not-both (not (eqb count 0)) _ (λ t. not-both (ltb a (s .lastLength)) _ (λ u. ap not (eq-eqb _ _ (w .front (some t) (ltb-true _ _ u))))) in

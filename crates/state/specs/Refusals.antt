@@ -10,10 +10,10 @@ use Rattle.answer.specs.Refusal.{refusal, _orElse_}
 use Rattle.settings.specs.declared.Settings.{Settings}
 use Rattle.settings.specs.Settings.{room, setLimit, normalLookahead, lookaheadOffset, isNone, isFast, settingsFault}
 use Rattle.score.specs.declared.ScenecutResult.{ScenecutResult}
-use Rattle.score.specs.Search.{anyOf, countOf}
+use Rattle.score.specs.Search.{anyOf}
 use Rattle.score.specs.Deque.{noScore}
 use Rattle.score.specs.Costs.{forbidden, forbiddenEntry}
-use Rattle.score.specs.Numbers.{numbersOf, neighbours, areEqual, areAstray}
+use Rattle.score.specs.Numbers.{misnumbered}
 use Rattle.state.specs.State.{View, Call}
 
 -- ---- 11
@@ -40,11 +40,11 @@ offsetAstray g count o = eqb count 0 && not (eqb o (lookaheadOffset g))
 
 -- document 02, L5: "11 also for entries in None mode"
 abbrev pub entriesInNone : Settings → ℕ → Bool
-entriesInNone g count = isNone g && not (eqb count 0)
+entriesInNone g count = not (eqb count 0) && isNone g
 
 -- ".. or before any accepted call": a last number of 0 says that there was none
 abbrev pub entriesBeforeCall : ℕ → ℕ → Bool
-entriesBeforeCall last count = eqb last 0 && not (eqb count 0)
+entriesBeforeCall last count = not (eqb count 0) && eqb last 0
 
 -- the parts that are seen without an entry
 abbrev pub unfit : Settings → ℕ → ℕ → ℕ → Bool
@@ -58,23 +58,12 @@ unfit g count o last =
 abbrev pub costForbidden : List ScenecutResult → Bool
 costForbidden l = anyOf forbiddenEntry l
 
--- L5: ".. for two neighbours' numbers that neither fall by one nor are equal"
-abbrev pub numbersAstray : List ScenecutResult → Bool
-numbersAstray l = anyOf areAstray (neighbours (numbersOf l))
-
--- ".. for more than one equal pair of neighbours"
-abbrev pub repeatedTwice : List ScenecutResult → Bool
-repeatedTwice l = ltb 1 (countOf areEqual (neighbours (numbersOf l)))
-
--- the parts that are seen of the pair numbers alone
-abbrev pub misnumbered : List ScenecutResult → Bool
-misnumbered l = numbersAstray l || repeatedTwice l
-
--- "where the last length is above A, .. a front number other than last number + o"; with no entry there is no front
+-- L5: "where the last length is above A, .. a front number other than last number + o"; with no entry there is no front
 abbrev pub frontAstray : Settings → ℕ → ℕ → ℕ → List ScenecutResult → Bool
 frontAstray g last lastLength o l =
     not (eqb (length l) 0) && (ltb (lookaheadOffset g) lastLength && not (eqb (getD l 0 noScore .«pair_number») (last + o)))
 
+-- "for two neighbours' numbers that neither fall by one nor are equal, for more than one equal pair of neighbours": `misnumbered`
 unfoldable pub stateFault : View → ℕ
 stateFault s =
     refusal 11 (unfit (s .settings) (length (s .entries)) (s .offset) (s .lastNumber)

@@ -37,8 +37,8 @@ fn is_unfit(g: Settings, count: usize, o: usize, last: u64) -> bool
     let over_window = (a == Settings::NORMAL_LOOKAHEAD) & (window < count);
     let past = (count != 0) & (count <= o);
     let astray = (count == 0) & (o != a);
-    let in_none = (g.mode == Settings::NONE) & (count != 0);
-    let before_call = (last == 0) & (count != 0);
+    let in_none = (count != 0) & (g.mode == Settings::NONE);
+    let before_call = (count != 0) & (last == 0);
     (fault != 0) | (over_room | (over_window | (past | (astray | (in_none | before_call)))))
 }
 

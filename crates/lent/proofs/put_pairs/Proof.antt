@@ -1,7 +1,6 @@
 -- `lent::put_pairs` meets its contract. After i turns the first i entries' pair numbers are placed, and what stands before them stayed.
 -- Assumes nothing.
-use mathlib.Core.List.{_++_}
-use mathlib.Core.Path.{_≡_, refl, sym, _∙_, ap}
+use mathlib.Core.Path.{_≡_, refl, sym, _∙_}
 use Prim.Native.Nat.{_+_, _-_, _≤_, _<_}
 use native.Mathlib.Numerals.{add-one}
 use native.Mathlib.Omega.{arith}
@@ -45,8 +44,7 @@ loop-again c =
     let inv = c .before .loop .inv in
     let f = few c in
     let r : length (d .entries) ≡ room = roomy d _ (b .before .before .good .1 .0) in
-    let rest : i < length (drop pairsPlace ns) = omega (arith, length-drop pairsPlace ns) in
-    (
+    let rest : i < length (drop pairsPlace ns) = omega (arith, length-drop pairsPlace ns) in (
       omega arith,
       rw length-set (inv .1),
       take-set-le pairsPlace out (pairsPlace + i) pair (omega arith) ∙ inv .2,

@@ -17,7 +17,6 @@ use Rattle.score.specs.Numbers.{numbersOf, neighbours, areEqual, areAstr
 use Rattle.score.proofs.Room.{roomy, long}
 use Rattle.score.proofs.Counts.{any-end, any-more, count-end, count-more}
 use Rattle.score.proofs.PairLaws.{numbers-long, number-at, neighbours-long, neighbours-at, noTwo, two-behind, two-far, two-fall, two-equal}
-use borrow.Author.Needs.{needs}
 use native.Mathlib.Omega.{arith}
 use Rattle.score.proofs.numbers.any_misnumbered.Statement.{statement}
 use Rattle.score.proofs.numbers.any_misnumbered.Tie as tie
