@@ -189,6 +189,7 @@ int main(void)
     if (word() != record - 1) stop("the number of records is not the one announced");
     printf("compared: %" PRIu64 " detector calls, %" PRIu64 " with a score, and %" PRIu64 " cuts, %" PRIu64 " by the decision rule\n",
            calls, scored, cuts, ruled);
+    printf("compared: %" PRIu64 " pair numbers; %" PRIu64 " calls leave two equal ones side by side\n", numbered, repeated);
     printf("compared: %" PRIu64 " fresh detectors, %" PRIu64 " whole films of %" PRIu64 " frames, %" PRIu64 " refusals\n", fresh, films,
            film_frames, refusals);
     print_measured(0);

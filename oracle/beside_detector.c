@@ -8,7 +8,7 @@
 
 enum { ENTRY = BRINE_SCORE_DOUBLES };
 
-uint64_t calls, scored, cuts, ruled, fresh, films, film_frames;
+uint64_t calls, scored, cuts, ruled, numbered, repeated, fresh, films, film_frames;
 /* The state as it should be: what the port has written so far, as the crate says. */
 static uint64_t numbers[BRINE_NUMBERS];
 static double scores[BRINE_SCORES];
@@ -35,6 +35,20 @@ void detector_state(void)
     memcpy(scores, reals(&len), sizeof scores);
 }
 
+/* The pair numbers from one on are as they were before the call. */
+static int pairs_stay(const uint64_t *lent, size_t from)
+{
+    return memcmp(lent + BRINE_PAIRS + from, numbers + BRINE_PAIRS + from, (BRINE_ENTRIES - from) * sizeof *numbers) == 0;
+}
+
+/* Whether two of so many pair numbers that stand side by side are equal. */
+static int has_equal(const uint64_t *pairs, size_t count)
+{
+    for (size_t k = 1; k < count; k++)
+        if (pairs[k - 1] == pairs[k]) return 1;
+    return 0;
+}
+
 void detector_fresh(void)
 {
     const uint64_t *n = words(7);
@@ -46,10 +60,11 @@ void detector_fresh(void)
     double *places = lend(SCORES, wide_scores, scores_len * sizeof *scores, 8);
     int64_t got = brine_detector_fresh(n[0], n[1], (uint32_t)n[2], n[3], (uint32_t)n[4], n[5], n[6], lent, numbers_len, places,
                                        scores_len);
+    /* No pair number is written: there is no score yet. */
+    int ok = due == got && (due != 0 || pairs_stay(lent, 0));
     if (due == 0) memcpy(numbers, after, sizeof numbers);
     fresh += due == 0;
-    verdict(due == got && holds(NUMBERS, due == 0 ? numbers : wide_numbers) && holds(SCORES, wide_scores), "fresh detector",
-            due, got);
+    verdict(ok && holds(NUMBERS, due == 0 ? numbers : wide_numbers) && holds(SCORES, wide_scores), "fresh detector", due, got);
 }
 
 struct list {
@@ -93,12 +108,16 @@ void detector_step(void)
         const uint64_t *after = words(BRINE_NUMBERS);
         const double *entries = reals(&len);
         ok = ok && memcmp(lent, after, sizeof numbers) == 0 && entries_as(places, entries, len / ENTRY);
+        /* Pair numbers are written up to the count, and without a score none is. */
+        ok = ok && pairs_stay(lent, due >= 2 ? len / ENTRY : 0);
         const double *score = reals(&score_len);
         for (size_t i = 0; ok && i < score_len; i++) ok = same(places[lent[BRINE_OFFSET] * ENTRY + i], score[i]);
         memcpy(numbers, after, sizeof numbers);
         memcpy(scores, entries, len * sizeof *scores);
         calls++;
         scored += due >= 2;
+        numbered += due >= 2 ? numbers[BRINE_COUNT] : 0;
+        repeated += due >= 2 && has_equal(numbers + BRINE_PAIRS, numbers[BRINE_COUNT]);
         cuts += (uint64_t)due & 1;
         ruled += due == 3 && frame - previous < numbers[BRINE_MAX];
     }
@@ -140,9 +159,21 @@ static struct frame frame(void)
     return f;
 }
 
-/* The library's answers for one call of the driver against the crate's: is frame n a cut, and its score. */
-static int film_call(struct frame *f, size_t count, size_t n, size_t ahead, uint64_t *previous, int cut,
-                     const double *score)
+/* Whether the score that was decided on has the inter cost of the pair that its number names. Where frames are reduced an item's
+   second score has 0; it may be decided on when the first one is dropped already. */
+static int names_its_pair(const struct frame *f, size_t count)
+{
+    const uint64_t *n = numbers, pair = n[BRINE_PAIRS + n[BRINE_OFFSET]];
+    const double inter = scores[n[BRINE_OFFSET] * ENTRY + BRINE_INTER];
+    int is_reduced = brine_scale_factor(n[BRINE_WIDTH], n[BRINE_HEIGHT], (uint32_t)n[BRINE_MODE]) > 1;
+    return pair < count && (same(inter, f[pair].inter) || (is_reduced && inter == 0));
+}
+
+/* What the crate has for a frame: its number, the pair that it is decided on, as counted, and the score. */
+enum { FOUND_FRAME, FOUND_PAIR, FOUND_SCORE, FOUND = FOUND_SCORE + ENTRY };
+
+/* The library's answers for one call of the driver against the crate's: is frame n a cut, and its score, if there is one. */
+static int film_call(struct frame *f, size_t count, size_t n, size_t ahead, uint64_t *previous, int cut, const uint64_t *found)
 {
     double inter[BRINE_SET_LIMIT], importance[BRINE_SET_LIMIT], threshold[BRINE_SET_LIMIT];
     /* The crate's driver has no largest set; a longer one is refused here. */
@@ -155,8 +186,13 @@ static int film_call(struct frame *f, size_t count, size_t n, size_t ahead, uint
     }
     int64_t got = brine_detector_step(numbers, BRINE_NUMBERS, scores, BRINE_SCORES, set, n, *previous, inter, set - 1, importance,
                                       set - 1, threshold, set - 1);
-    int ok = got == cut + (score != NULL ? 2 : 0);
-    for (int i = 0; ok && score != NULL && i < ENTRY; i++) ok = same(scores[numbers[BRINE_OFFSET] * ENTRY + i], score[i]);
+    int ok = got == cut + (found != NULL ? 2 : 0);
+    if (ok && found != NULL) {
+        double score[ENTRY];
+        memcpy(score, found + FOUND_SCORE, sizeof score);
+        for (int i = 0; ok && i < ENTRY; i++) ok = same(scores[numbers[BRINE_OFFSET] * ENTRY + i], score[i]);
+        ok = ok && numbers[BRINE_PAIRS + numbers[BRINE_OFFSET]] == found[FOUND_PAIR] && names_its_pair(f, count);
+    }
     if (got >= 0 && (got & 1)) *previous = n;
     return ok;
 }
@@ -171,7 +207,7 @@ void whole_film(void)
     size_t cut_count = word();
     const uint64_t *cut = words(cut_count);
     size_t score_count = word();
-    const uint64_t *score = words(score_count * (1 + ENTRY));
+    const uint64_t *found = words(score_count * FOUND);
     int ok = 1;
     for (size_t i = 1; i < count; i++) ok = ok && measure((uint32_t)s[2], s[4], &f[i - 1], &f[i]);
     ok = ok && brine_detector_fresh(s[0], s[1], (uint32_t)s[2], s[3], (uint32_t)s[4], s[5], s[6], numbers, BRINE_NUMBERS, scores,
@@ -181,8 +217,8 @@ void whole_film(void)
     size_t next_cut = 1, next_score = 0, n;
     for (n = 1; ok && n < count; n++) {
         int is_cut = next_cut < cut_count && cut[next_cut] == n;
-        int has_score = next_score < score_count && score[next_score * (1 + ENTRY)] == n;
-        ok = film_call(f, count, n, s[3], &previous, is_cut, has_score ? (const double *)&score[next_score * (1 + ENTRY) + 1] : NULL);
+        int has_score = next_score < score_count && found[next_score * FOUND + FOUND_FRAME] == n;
+        ok = film_call(f, count, n, s[3], &previous, is_cut, has_score ? found + next_score * FOUND : NULL);
         next_cut += (size_t)is_cut;
         next_score += (size_t)has_score;
     }

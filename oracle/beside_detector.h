@@ -7,6 +7,7 @@ void detector_fresh(void);
 void detector_state(void);
 void detector_step(void);
 void whole_film(void);
-/* Detector calls: all, those with a score, cuts, and cuts that the decision rule found and not the largest interval. */
-extern uint64_t calls, scored, cuts, ruled, fresh, films, film_frames;
+/* Detector calls: all, those with a score, cuts, and cuts that the decision rule found and not the largest interval. Of those with
+   a score: the pair numbers in all, and the calls that leave two equal ones side by side. */
+extern uint64_t calls, scored, cuts, ruled, numbered, repeated, fresh, films, film_frames;
 #endif

@@ -133,6 +133,8 @@ int64_t __wrap_brine_detector_fresh(FRESH)
 {
     int64_t r = __real_brine_detector_fresh(width, height, depth, lookahead, mode, min, max, numbers, numbers_len, scores, scores_len);
     if (does("fresh-writes-a-score") && r >= 0) scores[BRINE_SCORES - 1] = 42;
+    if (does("fresh-writes-a-pair-number") && r >= 0) numbers[BRINE_PAIRS] ^= 1;
+    if (does("fresh-writes-the-last-pair-number") && r >= 0) numbers[BRINE_NUMBERS - 1] = 0;
     if (does("fresh-when-refused") && r < 0) spoil(numbers, numbers_len * sizeof *numbers);
     return r;
 }
@@ -148,11 +150,20 @@ int64_t __wrap_brine_detector_step(STEP)
     int64_t r = __real_brine_detector_step(numbers, numbers_len, scores, scores_len, set, frame, previous, inter, inter_len,
                                            importance, importance_len, threshold, threshold_len);
     const uint64_t count = r < 0 ? 0 : numbers[BRINE_COUNT];
+    uint64_t *pairs = numbers + BRINE_PAIRS;
     if (does("step-past-all-entries") && r >= 0) scores[BRINE_SCORES - 1] = 42;
     if (does("step-past-the-count") && r >= 0 && count < BRINE_ENTRIES) scores[ENTRY * count] = 7.125;
     if (does("step-changes-a-setting") && r >= 0) numbers[BRINE_MAX] ^= 1;
     if (does("step-changes-the-first-number") && r >= 0) numbers[BRINE_FIRST_NUMBER] ^= 1;
     if (does("step-changes-the-last-entry") && count != 0) scores[ENTRY * (count - 1) + BRINE_BACKWARD] = 1e9;
+    if (does("step-changes-a-pair-number") && r >= 2) pairs[numbers[BRINE_OFFSET]] += 1;
+    if (does("step-changes-the-last-pair-number") && r >= 2) pairs[count - 1] ^= 1;
+    if (does("step-swaps-two-pair-numbers") && r >= 2 && count > 1) pairs[0]--, pairs[1]++;
+    if (does("pair-number-without-a-score") && (r == 0 || r == 1)) pairs[0] ^= 1;
+    if (does("last-pair-number-without-a-score") && (r == 0 || r == 1)) pairs[BRINE_ENTRIES - 1] ^= 1;
+    if (does("pair-number-past-the-count") && r >= 0 && count < BRINE_ENTRIES) pairs[count] = 7;
+    if (does("pair-number-past-all-entries") && r >= 0) pairs[BRINE_ENTRIES - 1] = 42;
+    if (does("pair-number-when-refused") && r < 0 && numbers_len == BRINE_NUMBERS) pairs[0] ^= 1;
     if (does("step-changes-the-score") && r >= 2) scores[ENTRY * numbers[BRINE_OFFSET] + BRINE_THRESHOLD] *= -1;
     if (does("scores-when-refused") && r < 0) spoil(scores, scores_len * sizeof *scores);
     if (does("numbers-when-refused") && r < 0) spoil(numbers, numbers_len * sizeof *numbers);

@@ -1,6 +1,6 @@
 //! Frames and planes, as far as the crate's files use them. A plane is samples, sides, stride and origin. What the
 //! original cannot do: a plane here has whatever stride and origin the case asks for, a frame carries the three measures
-//! of the pair that it ends, and a plane may carry a mark in place of samples.
+//! of the pair that it ends, and a plane may carry a mark in place of samples. What is compared of these is noted.
 
 pub mod chroma {
     #[derive(Clone, Copy, Debug, PartialEq, Eq)]
@@ -42,7 +42,7 @@ pub mod plane {
         }
     }
 
-    /// In place of samples: which frame this is, and its difference from the frame before it.
+    /// In place of samples: the frame's number, and its difference from the frame before it.
     #[derive(Clone, Copy, Debug, PartialEq)]
     pub struct Mark {
         pub frame: u64,
@@ -120,5 +120,37 @@ pub mod frame {
         pub fn deep(y_plane: Plane<T>, bit_depth: u8, fed: Fed) -> Self {
             Frame { y_plane, bit_depth: NonZeroU8::new(bit_depth).unwrap(), fed }
         }
+    }
+}
+
+/// Which marked frames the crate's code compares: its scores do not say of which pair they are. Nothing is noted unless that is
+/// asked for, so that a measurement of the crate has nothing of it.
+pub mod watch {
+    use std::cell::{Cell, RefCell};
+
+    /// One comparison: the number of the second frame, and the number that the crate's code hands on for it, where it does.
+    #[derive(Clone, Copy, Debug)]
+    pub struct Compared {
+        pub frame: u64,
+        pub said: Option<u64>,
+    }
+
+    thread_local! {
+        static ASKED: Cell<bool> = const { Cell::new(false) };
+        static SEEN: RefCell<Vec<Compared>> = const { RefCell::new(Vec::new()) };
+    }
+
+    pub fn note(frame: u64, said: Option<u64>) {
+        if ASKED.get() {
+            SEEN.with_borrow_mut(|seen| seen.push(Compared { frame, said }));
+        }
+    }
+
+    /// What is compared meanwhile, in its order.
+    pub fn during<R>(run: impl FnOnce() -> R) -> (R, Vec<Compared>) {
+        ASKED.set(true);
+        let result = run();
+        ASKED.set(false);
+        (result, SEEN.take())
     }
 }

@@ -1,9 +1,11 @@
 //! Calls that are refused. The reading says with which number; the crate is given the same call where it can be.
 use crate::desk::{Desk, LENGTHS, put_call, put_state};
+use crate::pair_cases;
 use crate::random::Random;
-use crate::reading::{self, Call, State};
+use crate::reading;
 use crate::run::ask_refused;
-use crate::sizes::{COUNT, LAST, LENGTH, OFFSET, ROOM, SCORE, SET_LIMIT};
+use crate::sizes::{COUNT, LAST, LENGTH, OFFSET, PAIRS, ROOM, SCORE, SET_LIMIT};
+use crate::state::{Call, State};
 use crate::tally::Ran;
 use crate::values::{bad_inter, bad_other};
 
@@ -25,27 +27,39 @@ pub fn settings(r: &mut Random, mut n: [u64; 7]) -> ([u64; 7], (u64, u64)) {
     (n, lengths)
 }
 
+/// Among them those of a state without pair numbers.
 fn odd_lengths(r: &mut Random) -> (u64, u64) {
     let (n, s) = LENGTHS;
-    r.of(&[(n - 1, s), (n + 1, s), (n, s - 1), (n, s + 1), (0, 0), (n, 0), (0, s), (s, n)])
+    r.of(&[(n - 1, s), (n + 1, s), (n, s - 1), (n, s + 1), (0, 0), (n, 0), (0, s), (s, n), (PAIRS as u64, s)])
 }
 
 /// One wrong thing in a state. A depth that is another's is none.
 fn state(r: &mut Random, s: &mut State, is_deep: bool) {
     let (count, room) = (s.numbers[COUNT], ROOM as u64);
-    match r.below(9) {
+    match r.below(11) {
         0 => s.numbers[0] = r.of(&[0, 8193, u64::MAX, (1 << 32) + 16]),
         1 => s.numbers[1] = r.of(&[0, 8193, u64::MAX, (1 << 32) + 16]),
         2 if is_deep => s.numbers[2] = r.of(&[0, 8, 9, 11, 12, 16, (1 << 32) + 10, (1 << 32) + 12, u64::MAX]),
         2 => s.numbers[2] = r.of(&[0, 7, 10, (1 << 32) + 8, u64::MAX]),
         3 => s.numbers[4] = r.of(&[3, (1 << 32) + 1, (1 << 32) + 2, 1 << 32, u64::MAX]),
-        4 => s.numbers[OFFSET] = r.of(&[0, count, count.wrapping_add(1), u64::MAX, count.wrapping_sub(1).wrapping_add(1 << 32)]),
+        4 => {
+            s.numbers[OFFSET] = r.of(&[0, count, count.wrapping_add(1), u64::MAX, count.wrapping_sub(1).wrapping_add(1 << 32)]);
+            if r.once_in(2) {
+                pair_cases::in_order(s);
+            }
+        }
         5 => {
             // Too many entries, and nothing else that is wrong with them.
             s.numbers[COUNT] = r.of(&[room, room, room + 1, 11, 11, room - 1, count.wrapping_add(1 << 32), u64::MAX, 0]);
             s.places.chunks_mut(SCORE).for_each(|e| e[0] = 1.0);
+            pair_cases::in_order(s);
         }
-        6 => s.numbers[LAST] = r.of(&[u64::MAX, 1 << 32, (1 << 32) - 1]),
+        6 => {
+            let (last, front) = (r.of(&[u64::MAX, 1 << 32, (1 << 32) - 1]), s.offset());
+            s.numbers[LAST] = last;
+            pair_cases::fall(s, last.wrapping_add(front), &[]);
+        }
+        9 | 10 => pair_cases::draw(r, s),
         _ => {
             let at = r.below(count.clamp(1, room)) as usize;
             s.places[at * SCORE] = bad_inter(r);
@@ -121,7 +135,7 @@ pub fn step(desk: &mut Desk, r: &mut Random, s: &State, c: &Call) {
 /// Writes an accepted call that belongs to no film: the reading alone answers.
 fn read(desk: &mut Desk, s: &State, c: &Call) {
     let (answer, after) = reading::step(s, c);
-    let given = (answer >= 2).then(|| after.entries()[after.offset() as usize]);
+    let given = (answer >= 2).then(|| after.entries()[after.offset() as usize].score);
     desk.tally.read_calls += 1;
     desk.tally.cuts += (answer & 1) as u64;
     put_call(desk, LENGTHS, c, answer, &after, given);

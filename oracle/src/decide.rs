@@ -2,6 +2,7 @@
 use std::fs;
 use std::io::{self, Write, stdin};
 
+use crate::counted::decided_pairs;
 use crate::films::{Film, score};
 use crate::random::Random;
 use crate::sample::Sample;
@@ -32,46 +33,62 @@ pub fn write<T: Sample>(seed: &str, folder: &str) -> io::Result<()> {
     fs::write(format!("{folder}/film.words"), words)
 }
 
-/// Whether the lines on the standard input are what the crate finds: number, cut, five numbers, release number; and that a large
-/// change is marked where it is no cut.
+/// What a line should hold: cut, score, release number; whether a large change is no cut, where that is known; and the score's pair.
+#[derive(Debug)]
+struct Due {
+    cut: bool,
+    score: Option<[f64; 5]>,
+    release: usize,
+    large: Option<bool>,
+    pair: Option<u64>,
+}
+
+/// Whether the lines on the standard input are what the crate finds.
 pub fn compare<T: Sample>(seed: &str) -> bool {
     let film = film::<T>(seed);
     let Some(found) = film.found() else { return false };
     let lines: Vec<String> = stdin().lines().map_while(Result::ok).skip(1).collect();
     let count = film.frames.len();
+    let pairs = decided_pairs(&film.settings, count);
     let mut release = 0;
     let mut good = lines.len() == count;
     // Else a score may be another pair's, and the mark goes by the frame's own.
     let own = film.settings[3] >= 5 && count >= 7;
-    for (n, line) in lines.iter().enumerate() {
+    for (n, line) in lines.iter().enumerate().take(count) {
         let [.., ahead, mode, _, _] = film.settings;
         let set = (count + 1 - n).min(ahead as usize + 2);
         // The first call is that of frame 1, so the number starts as 1, less one. Other calls keep it.
         if n > 0 && set >= 7 && ahead >= 5 && mode != 0 {
             release = n.saturating_sub(9).max(1) - 1;
         }
-        let cut = found.scene_changes.contains(&n);
-        let due = found.scores.get(&n).map(score);
-        let large = due.filter(|_| own).map(|[inter, .., threshold]| !cut && inter >= threshold);
-        if !line_is(line, n, cut, due, release, large) {
-            println!("seed {seed}, frame {n}: cut {cut}, score {due:?}, release number {release}; the command wrote {line}");
+        let (cut, score) = (found.scene_changes.contains(&n), found.scores.get(&n).map(score));
+        let large = score.filter(|_| own).map(|[inter, .., threshold]| !cut && inter >= threshold);
+        let due = Due { cut, score, release, large, pair: pairs[n] };
+        if !due.is(n, line) {
+            println!("seed {seed}, frame {n}: {due:?} is due; the command wrote {line}");
             good = false;
         }
     }
     good
 }
 
-fn line_is(line: &str, n: usize, cut: bool, due: Option<[f64; 5]>, release: usize, large: Option<bool>) -> bool {
-    let parts: Vec<&str> = line.split(',').collect();
-    let head = format!("{n},{}", i32::from(cut));
-    if parts.len() != 9 || parts[..2].join(",") != head || parts[7] != release.to_string() {
-        return false;
-    }
-    if large.is_some_and(|is| parts[8] != i32::from(is).to_string()) {
-        return false;
-    }
-    match due {
-        None => parts[2..7].iter().all(|p| p.is_empty()),
-        Some(s) => s.iter().zip(&parts[2..7]).all(|(x, p)| p.parse().is_ok_and(|y: f64| same(*x, y))),
+impl Due {
+    /// Frame, cut, five numbers, release number, large, pair.
+    fn is(&self, n: usize, line: &str) -> bool {
+        let parts: Vec<&str> = line.split(',').collect();
+        let head = format!("{n},{}", i32::from(self.cut));
+        if parts.len() != 10 || parts[..2].join(",") != head || parts[7] != self.release.to_string() {
+            return false;
+        }
+        if self.large.is_some_and(|is| parts[8] != i32::from(is).to_string()) {
+            return false;
+        }
+        if parts[9] != self.pair.map_or(String::new(), |pair| pair.to_string()) {
+            return false;
+        }
+        match self.score {
+            None => parts[2..7].iter().all(|p| p.is_empty()),
+            Some(s) => s.iter().zip(&parts[2..7]).all(|(x, p)| p.parse().is_ok_and(|y: f64| same(*x, y))),
+        }
     }
 }

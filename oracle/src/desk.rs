@@ -1,6 +1,6 @@
 //! Where cases are written and counted, and the records of the detector.
-use crate::reading::{Call, Score, State};
-use crate::sizes::{COUNT, NUMBERS, SCORE, SCORES};
+use crate::sizes::{NUMBERS, SCORE, SCORES};
+use crate::state::{Call, Score, State};
 use crate::stream::{Kind, Stream};
 use crate::tally::Tally;
 
@@ -23,8 +23,7 @@ pub fn put_call(desk: &mut Desk, lengths: (u64, u64), c: &Call, answer: i64, aft
     desk.out.reals(&c.inter).reals(&c.importance).reals(&c.threshold).answer(answer);
     if answer >= 0 {
         desk.out.words(&after.numbers);
-        let count = after.numbers[COUNT] as usize;
-        desk.out.reals(&after.places[..count * SCORE]);
+        desk.out.reals(&after.places[..after.count() * SCORE]);
         desk.out.reals(given.as_ref().map_or(&[], |g| &g[..]));
     }
     desk.out.end(Kind::Step);

@@ -1,15 +1,19 @@
 //! Films from a fresh detector and from any state that refusal 11 lets in, with damaged calls between.
 use crate::attempt::ran;
+use crate::counted::{Answer, Counted};
 use crate::damage;
 use crate::desk::{Desk, LENGTHS, put_call, put_state};
+use crate::pair_cases;
 use crate::random::Random;
-use crate::reading::{self, Call, NONE, STANDARD, Score, State};
-use crate::run::{Detector, Film, LOOKAHEAD_MOST, detector, possible};
+use crate::reading::{self, NONE, STANDARD};
+use crate::run::{Film, LOOKAHEAD_MOST, detector, possible};
 use crate::sample::Sample;
-use crate::sizes::{LAST, LENGTH, NUMBERS, OFFSET, ROOM, SCORE, SCORES, SET_LIMIT};
+use crate::sizes::{LAST, LENGTH, SET_LIMIT};
+use crate::state::{Call, Entry, Score, State};
+use crate::state_cases::{any_state, blank};
 use crate::stream::Kind;
 use crate::tally::Ran;
-use crate::values::{Taste, any_real, same};
+use crate::values::same;
 
 /// Which depths are drawn: that of a byte, or those of two.
 #[derive(Clone, Copy)]
@@ -19,7 +23,7 @@ pub enum Depths {
 }
 
 /// Width, height, depth, lookahead, mode, min, max.
-fn settings(r: &mut Random, depths: Depths) -> [u64; 7] {
+pub fn settings(r: &mut Random, depths: Depths) -> [u64; 7] {
     let depth = match depths {
         Depths::Byte => 8,
         Depths::Deep => u16::depth(r),
@@ -43,13 +47,10 @@ fn settings(r: &mut Random, depths: Depths) -> [u64; 7] {
 }
 
 /// A refused or accepted `fresh`; the state that the port then has.
-fn fresh(desk: &mut Desk, n: &[u64; 7], lengths: (u64, u64), before: &State) -> State {
+pub fn fresh(desk: &mut Desk, n: &[u64; 7], lengths: (u64, u64), before: &State) -> State {
     let fault = if lengths != LENGTHS { 11 } else { reading::fresh_fault(n) };
-    let mut s = before.clone();
+    let s = if fault == 0 { reading::fresh(n, before) } else { before.clone() };
     if fault == 0 {
-        s.numbers = [0; NUMBERS];
-        s.numbers[..7].copy_from_slice(n);
-        s.put(s.ahead(), &[]);
         if possible(&s) {
             let d = detector(n);
             let (offset, entries) = d.door_look();
@@ -66,25 +67,32 @@ fn fresh(desk: &mut Desk, n: &[u64; 7], lengths: (u64, u64), before: &State) -> 
     s
 }
 
-/// An accepted call: the crate's answer if it can be asked, beside the reading's.
-pub fn accepted(desk: &mut Desk, film: &Film, d: Option<&mut Detector>, s: &State, c: &Call) -> (i64, State) {
-    let (mut answer, mut after) = reading::step(s, c);
+/// Whether the crate's answer, its score, its offset and its entries are those that were read; the pair numbers are counted
+/// beside the crate.
+fn is_read(theirs: &Answer, answer: i64, after: &State, given: &Option<Score>) -> bool {
+    let equal = |a: &Score, b: &Score| a.iter().zip(b).all(|(x, y)| same(*x, *y));
+    let alike = |(a, b): (&Entry, &Entry)| a.pair == b.pair && equal(&a.score, &b.score);
+    let scores = match (given, &theirs.given) {
+        (Some(a), Some(b)) => equal(a, b),
+        (None, None) => true,
+        _ => false,
+    };
     let ours = after.entries();
-    let mut given = (answer >= 2).then(|| ours[after.offset() as usize]);
+    let counts = after.offset() == theirs.offset && ours.len() == theirs.entries.len();
+    theirs.is_counted && answer == theirs.answer && scores && counts && ours.iter().zip(&theirs.entries).all(alike)
+}
+
+/// An accepted call: the crate's answer if it can be asked, beside the reading's.
+pub fn accepted(desk: &mut Desk, film: &Film, d: Option<&mut Counted>, s: &State, c: &Call) -> (i64, State) {
+    let (mut answer, mut after) = reading::step(s, c);
+    let mut given = (answer >= 2).then(|| after.entries()[after.offset() as usize].score);
     match d {
         None => desk.tally.read_calls += 1,
         Some(d) => match film.ask(d, c) {
             None => desk.tally.differs(&format!("the crate stops: {c:?} from {:?}", s.numbers)),
             Some(theirs) => {
-                desk.tally.calls += 1;
-                let equal = |a: &Score, b: &Score| a.iter().zip(b).all(|(x, y)| same(*x, *y));
-                let scores = match (&given, &theirs.given) {
-                    (Some(a), Some(b)) => equal(a, b),
-                    (None, None) => true,
-                    _ => false,
-                };
-                let alike = answer == theirs.answer && after.offset() == theirs.offset && ours.len() == theirs.entries.len();
-                if !alike || !scores || !ours.iter().zip(&theirs.entries).all(|(a, b)| equal(a, b)) {
+                desk.tally.asked(&theirs);
+                if !is_read(&theirs, answer, &after, &given) {
                     let of = s.numbers;
                     desk.tally.differs(&format!("answer {}, read as {answer}: {c:?} from {of:?}", theirs.answer));
                 }
@@ -98,12 +106,16 @@ pub fn accepted(desk: &mut Desk, film: &Film, d: Option<&mut Detector>, s: &Stat
     (answer, after)
 }
 
-/// Calls over one film from state s, whose sets never get longer.
-fn film(desk: &mut Desk, r: &mut Random, mut s: State, first: u64, calls: u64) {
+/// How many frames a first set has.
+fn first_set(r: &mut Random) -> u64 {
+    if r.once_in(3) { r.below(SET_LIMIT + 1) } else { r.of(&[2, 3, 6, 7, 7, 8, SET_LIMIT, SET_LIMIT]) }
+}
+
+/// Calls over one film from state s, of which the first has a set of so many frames; sets never get longer.
+fn film(desk: &mut Desk, r: &mut Random, mut s: State, first: u64, calls: u64, mut set: u64) {
     let film = Film::new(r, &s, first, calls);
     let mut d = (film.real && possible(&s)).then(|| film.placed(&s, first));
     let mut previous = first - r.below(first.min(20) + 1);
-    let mut set = if r.once_in(3) { r.below(SET_LIMIT + 1) } else { r.of(&[2, 3, 6, 7, 7, 8, SET_LIMIT, SET_LIMIT]) };
     for n in first..first + calls {
         if s.numbers[LAST] != 0 {
             set = set.min(s.numbers[LENGTH]);
@@ -133,56 +145,46 @@ fn film(desk: &mut Desk, r: &mut Random, mut s: State, first: u64, calls: u64) {
     }
 }
 
-/// Any state that refusal 11 lets in, reachable or not.
-fn any_state(r: &mut Random, depths: Depths) -> State {
-    let mut s = State { numbers: [0; NUMBERS], places: [0.0; SCORES] };
-    s.numbers[..7].copy_from_slice(&settings(r, depths));
-    s.places.iter_mut().for_each(|x| *x = any_real(r));
-    let taste = Taste::new(r);
-    let most = if s.ahead() == 5 { 10 } else { ROOM as u64 - 1 };
-    let count = if r.once_in(8) { 0 } else { r.from_to(1, most) };
-    let offset = if count == 0 { s.ahead() } else { r.below(count) };
-    for place in s.places.chunks_mut(SCORE).take(count as usize) {
-        place[0] = taste.inter(r);
-        if r.once_in(2) {
-            place[1] = taste.importance(r, s.numbers[2]);
-            place[2] = taste.inter(r);
-            place[3] = taste.inter(r);
-            place[4] = taste.threshold(r);
-        }
+/// Settings and the length of a first set that is short: its last item is scored twice. That is every set without lookahead, and
+/// one of six frames with it.
+fn short_first(r: &mut Random, depths: Depths) -> ([u64; 7], u64) {
+    let mut n = settings(r, depths);
+    n[4] = n[4].max(1);
+    let (lookahead, set) = if r.once_in(3) { (r.of(&[5, 6, SET_LIMIT]), 6) } else { (r.below(5), r.from_to(2, SET_LIMIT)) };
+    n[3] = lookahead;
+    (n, set)
+}
+
+/// A film over a given state, which may be one that refusal 11 does not let in.
+fn given(desk: &mut Desk, r: &mut Random, depths: Depths) {
+    let mut s = any_state(r, depths);
+    if r.once_in(3) {
+        pair_cases::draw(r, &mut s);
     }
-    let last = match r.below(4) {
-        0 => 0,
-        1 => r.below(20),
-        2 => (1 << 32) - 2 - r.below(3),
-        _ => r.below(1 << 20),
-    };
-    let odd = |r: &mut Random| r.of(&[0, 1, 7, last, last + 1, u64::MAX, 1 << 40]);
-    let length = if r.once_in(4) { r.of(&[u64::MAX, SET_LIMIT + 1, 1 << 32]) } else { r.below(SET_LIMIT + 1) };
-    s.numbers[OFFSET..].copy_from_slice(&[offset, last, length, odd(r), odd(r), count]);
-    s
+    put_state(desk, &s);
+    // No film goes beyond the last number that a frame can have.
+    let last = s.numbers[LAST].min((1 << 32) - 2);
+    let first = if last == 0 { r.of(&[1, 2, 9, 1000]) } else { last + 1 };
+    let calls = 1 + r.below(if s.mode() == NONE { 3 } else { 12 });
+    let set = first_set(r);
+    film(desk, r, s, first, calls, set);
 }
 
 /// One run: a fresh detector or a given state, and a film over it.
 pub fn run(desk: &mut Desk, r: &mut Random, depths: Depths) {
-    let blank = State { numbers: [r.word(); NUMBERS], places: [any_real(r); SCORES] };
     if r.once_in(3) {
-        let s = any_state(r, depths);
-        put_state(desk, &s);
-        let last = s.numbers[LAST];
-        let first = if last == 0 { r.of(&[1, 2, 9, 1000]) } else { last + 1 };
-        let calls = 1 + r.below(if s.mode() == NONE { 3 } else { 12 });
-        film(desk, r, s, first, calls);
-        return;
+        return given(desk, r, depths);
     }
-    put_state(desk, &blank);
+    let before = blank(r);
+    put_state(desk, &before);
     if r.once_in(4) {
         let sound = settings(r, depths);
         let (n, lengths) = damage::settings(r, sound);
-        fresh(desk, &n, lengths, &blank);
-        put_state(desk, &blank);
+        fresh(desk, &n, lengths, &before);
+        put_state(desk, &before);
     }
-    let s = fresh(desk, &settings(r, depths), LENGTHS, &blank);
+    let (n, set) = if r.once_in(3) { short_first(r, depths) } else { (settings(r, depths), first_set(r)) };
+    let s = fresh(desk, &n, LENGTHS, &before);
     let first = match r.below(8) {
         0..=4 => 1,
         5 => (1 << 32) - 1 - r.below(4),
@@ -190,5 +192,5 @@ pub fn run(desk: &mut Desk, r: &mut Random, depths: Depths) {
         _ => r.from_to(2, 1 << 31),
     };
     let calls = 1 + r.below(if s.mode() == NONE { 20 } else { 50 });
-    film(desk, r, s, first, calls);
+    film(desk, r, s, first, calls, set);
 }

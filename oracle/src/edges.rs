@@ -3,12 +3,14 @@ use crate::desk::{Desk, LENGTHS, put_state};
 use crate::detector_cases::accepted;
 use crate::list_cases::{satd_of, scale_of};
 use crate::measures_reading::Lent;
+use crate::pair_edges;
 use crate::plane_cases::{intra_of, pair_of};
 use crate::random::Random;
-use crate::reading::{self, FAST, NONE, STANDARD, State};
+use crate::reading::{self, FAST, NONE, STANDARD};
 use crate::run::Film;
 use crate::sample::{Sample, most};
 use crate::sizes::{LAST, LENGTH, NUMBERS, SCORES, SET_LIMIT};
+use crate::state::State;
 
 pub fn flat<T: Sample>(width: u64, height: u64, value: u64) -> Lent<T> {
     Lent { samples: vec![T::of(value); (width * height) as usize], width, height, stride: width, origin: 0 }
@@ -61,11 +63,9 @@ pub fn large_deep(desk: &mut Desk) {
     pair_of::<u16>(desk, 12, &flat(1025, 1025, 0), &flat(1025, 1025, most(12)));
 }
 
-fn fresh(settings: [u64; 7]) -> State {
-    let mut s = State { numbers: [0; NUMBERS], places: [0.5; SCORES] };
-    s.numbers[..7].copy_from_slice(&settings);
-    s.put(s.ahead(), &[]);
-    s
+/// A fresh detector; the pair numbers that no entry has are odd.
+pub fn fresh(settings: [u64; 7]) -> State {
+    reading::fresh(&settings, &State { numbers: [77; NUMBERS], places: [0.5; SCORES] })
 }
 
 /// A first call with fixed measures.
@@ -127,4 +127,5 @@ pub fn all(desk: &mut Desk) {
     measures::<u8>(desk, 8);
     calls(desk);
     last_number(desk);
+    pair_edges::all(desk);
 }

@@ -8,6 +8,7 @@ use v_frame::{
     plane::{Plane, PlaneGeometry},
 };
 
+use crate::counted::decided_pairs;
 use crate::desk::Desk;
 use crate::random::Random;
 use crate::sample::{Sample, most};
@@ -110,12 +111,16 @@ pub fn film<T: Sample>(desk: &mut Desk, r: &mut Random) {
         desk.out.real(f.fed.inter);
     }
 
-    // What the crate answers: the cuts, and the score of each frame that has one.
+    // What the crate answers: the cuts, and the score of each frame that has one; and of which pair it is, as counted.
     let cuts: Vec<u64> = found.scene_changes.iter().map(|&n| n as u64).collect();
+    let pairs = decided_pairs(&film.settings, film.frames.len());
+    if pairs.iter().flatten().count() != found.scores.len() {
+        desk.tally.differs("the scores of a film");
+    }
     desk.out.word(cuts.len() as u64).words(&cuts);
     desk.out.word(found.scores.len() as u64);
     for (n, e) in &found.scores {
-        desk.out.word(*n as u64).words(&score(e).map(f64::to_bits));
+        desk.out.word(*n as u64).word(pairs[*n].unwrap_or(0)).words(&score(e).map(f64::to_bits));
     }
     desk.out.end(T::KINDS.film);
     desk.tally.films += 1;

@@ -8,13 +8,16 @@ use crate::list_cases;
 use crate::log_cases;
 use crate::log_edges;
 use crate::measures_reading::{Lent, intra_fault};
+use crate::pair_cases;
 use crate::plane_cases::{differ, hurt_one, intra_of, or_odd, pair_of, shaped};
 use crate::random::Random;
-use crate::reading::{self, Call, ROOM, SCORES, STANDARD, State};
+use crate::reading::{self, STANDARD};
 use crate::reduce_cases;
 use crate::sample::{Sample, most};
+use crate::sizes::{COUNT, LAST, LENGTH, NUMBERS, OFFSET, ROOM, SCORES};
+use crate::state::{Call, State};
 
-/// How often each measure is drawn; some are refused. How many calls the crate answers.
+/// How often each measure is drawn; some are refused. How many calls are drawn that the crate answers.
 const MEASURES: u64 = 150;
 const CALLS: u64 = 2_000;
 /// How often a log is drawn, and the most records that it has.
@@ -112,33 +115,30 @@ fn hadamard(desk: &mut Desk, r: &mut Random, side: usize) {
     list_cases::hadamard_of(desk, &list, side);
 }
 
-/// A state of a Standard detector, and a call that it accepts.
+/// A state of a Standard detector, its pair numbers in order, and a call that it accepts.
 fn standard(lookahead: u64, last: u64, length: u64, count: u64) -> (State, Call) {
-    let numbers = [64, 64, 8, lookahead, STANDARD, 0, 1000, 0, last, length, last, last, count];
+    let blank = State { numbers: [0; NUMBERS], places: [1.0; SCORES] };
+    let mut s = reading::fresh(&[64, 64, 8, lookahead, STANDARD, 0, 1000], &blank);
+    (s.numbers[OFFSET], s.numbers[LAST], s.numbers[LENGTH], s.numbers[COUNT]) = (0, last, length, count);
+    pair_cases::fall(&mut s, last, &[]);
     let one = || vec![1.0];
     let c = Call { set: 2, frame: last + 1, previous: 0, inter: one(), importance: one(), threshold: one() };
-    (State { numbers, places: [1.0; SCORES] }, c)
+    (s, c)
 }
 
 /// The reading is asked all the same, so that a mutant of it makes a list, which is wrong here.
 fn refused(desk: &mut Desk, (s, c): (State, Call), due: u32) {
     let fault = reading::step_fault(LENGTHS, &s, &c);
-    is_due(desk, fault == due);
+    desk.tally.due(fault == due);
     put_state(desk, &s);
     damage::refused(desk, LENGTHS, &s, &c, fault);
-}
-
-fn is_due(desk: &mut Desk, is_due: bool) {
-    if !is_due {
-        desk.tally.differs("another refusal is due");
-    }
 }
 
 /// States for which 11 is due: as many entries as there is room for are too many, also without lookahead; with none the
 /// offset is A.
 fn refused_states(desk: &mut Desk) {
     for (lookahead, count) in [(0, ROOM), (5, 0)] {
-        refused(desk, standard(lookahead, 0, 0, count as u64), 11);
+        refused(desk, standard(lookahead, 40, 2, count as u64), 11);
     }
 }
 
@@ -148,7 +148,7 @@ fn orders_of_steps(desk: &mut Desk) {
         change(&mut call.1);
         call
     };
-    refused(desk, changed(standard(0, 4, 2, ROOM as u64), |c| c.frame = 0), 11);
+    refused(desk, changed(standard(0, 40, 2, ROOM as u64), |c| c.frame = 0), 11);
     refused(desk, changed(standard(0, 4, 2, 0), |c| (c.frame, c.set) = (0, u64::MAX)), 7);
     // One frame after an accepted set of none.
     let alone = |c: &mut Call| *c = Call { set: 1, inter: vec![], importance: vec![], threshold: vec![], ..*c };
@@ -167,7 +167,7 @@ fn orders_of_measures(desk: &mut Desk) {
         (8, sound.clone(), plane(9, 71), 1, 2),
         (8, sound.clone(), plane(9, 72), 0, 3),
     ] {
-        is_due(desk, intra_fault(depth, &a, &b, costs) == due);
+        desk.tally.due(intra_fault(depth, &a, &b, costs) == due);
         pair_of(desk, depth, &a, &b);
         intra_of(desk, depth, &a, &b, &vec![7; costs]);
     }
@@ -188,7 +188,8 @@ pub fn all(desk: &mut Desk, r: &mut Random) {
         hadamard(desk, r, 8);
         satd::<u8>(desk, r);
     }
-    while desk.tally.calls < CALLS {
+    let due = desk.tally.calls + CALLS;
+    while desk.tally.calls < due {
         detector_cases::run(desk, r, Depths::Byte);
     }
     logs(desk, r);

@@ -6,6 +6,7 @@
 //!   oracle decided SEED         compares what the command wrote, from the standard input, with what the crate finds
 //!   oracle film16, decided16    the same with a film of 10 or 12 bits
 mod attempt;
+mod counted;
 mod damage;
 mod decide;
 mod deep_cases;
@@ -21,6 +22,8 @@ mod log_edges;
 mod log_reading;
 mod measures_reading;
 mod memory;
+mod pair_cases;
+mod pair_edges;
 mod paper;
 mod plane_cases;
 mod random;
@@ -29,6 +32,8 @@ mod reduce_cases;
 mod run;
 mod sample;
 mod sizes;
+mod state;
+mod state_cases;
 mod stream;
 mod tally;
 mod values;

@@ -2,7 +2,7 @@
 //! letter of a call, and what should stand in the memory after it. Every NaN is written as one.
 use crate::kind::Kind;
 use crate::memory::{COSTS, ENTRIES, FIRST, LIST, LISTS, Memory, QUOTIENT, SCORES, SECOND, STATE, TORN};
-use crate::reading::{COUNT, NUMBERS, OFFSET, ROOM};
+use crate::sizes::{COUNT, NUMBERS, OFFSET, PAIRS, ROOM};
 use crate::words::{Reader, bits};
 
 /// What a place for a quotient holds before a call: the bits of a float that no call answers.
@@ -166,20 +166,25 @@ impl Paper {
         self.call(letter, answer, &[list.len() as u64], &[(ENTRIES, &after)]);
     }
 
-    /// A fresh detector is made over what stands there.
+    /// A fresh detector is made over what stands there: the pair numbers stay.
     fn fresh(&mut self, r: &mut Reader) {
         self.given = None;
         let (settings, answer, numbers) = (r.words(9), r.word(), r.words(NUMBERS));
-        let written = [(STATE, &numbers[..])];
+        let written = [(STATE, &numbers[..PAIRS])];
         self.call('F', answer, &settings, if answer == 0 { &written } else { &[] });
+    }
+
+    /// The numbers of a state without the pair numbers behind its entries, which stay as they are.
+    fn known(numbers: &[u64]) -> &[u64] {
+        &numbers[..PAIRS + numbers[COUNT].min(ROOM as u64) as usize]
     }
 
     /// The places behind the entries of a state stay as they are.
     fn step(&mut self, r: &mut Reader) {
         if let Some([numbers, floats]) = self.given.take() {
-            let entries = numbers[COUNT].min(ROOM as u64) as usize;
-            self.put(STATE, &numbers);
-            self.put(SCORES, &floats[..entries * ENTRY]);
+            let known = Self::known(&numbers);
+            self.put(STATE, known);
+            self.put(SCORES, &floats[..(known.len() - PAIRS) * ENTRY]);
         }
         let (call, lists) = (r.words(5), [r.reals(), r.reals(), r.reals()]);
         for (k, list) in lists.iter().enumerate() {
@@ -195,7 +200,7 @@ impl Paper {
         // The score that the crate gives is the entry at the offset.
         let at = after[OFFSET] as usize * ENTRY;
         assert!(score.is_empty() || score == entries[at..at + ENTRY]);
-        self.call('N', answer, &numbers, &[(STATE, &after), (SCORES, &entries)]);
+        self.call('N', answer, &numbers, &[(STATE, Self::known(&after)), (SCORES, &entries)]);
     }
 
     /// A scan and a read of one log.

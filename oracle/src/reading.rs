@@ -1,6 +1,7 @@
-//! Document 01's detector as a program, in its own order and words, with document 02's release number and depths. It says
-//! which refusal is due, and what the crate's answer should be; where the two differ the oracle says so.
-pub use crate::sizes::{COUNT, FIRST, LAST, LENGTH, NUMBERS, OFFSET, RELEASE, ROOM, SCORE, SCORES, SET_LIMIT};
+//! Document 01's detector as a program, in its own order and words, with document 02's release number, depths and pair
+//! numbers. It says which refusal is due, and what the crate's answer should be; where the two differ the oracle says so.
+use crate::sizes::{COUNT, FIRST, LAST, LENGTH, NUMBERS, OFFSET, PAIRS, RELEASE, ROOM, SCORES, SET_LIMIT};
+use crate::state::{Call, Entry, State};
 
 pub const NONE: u64 = 0;
 pub const FAST: u64 = 1;
@@ -9,57 +10,23 @@ pub const STANDARD: u64 = 2;
 /// 5: "a depth other than 8, 10, 12".
 const DEPTHS: [u64; 3] = [8, 10, 12];
 
-/// Inter cost, importance, backward, forward, threshold.
-pub type Score = [f64; SCORE];
-
-/// The state as it is lent: width, height, depth, lookahead, mode, min, max, offset, last number, last length, first
-/// number, release number, count; and the entries' places.
-#[derive(Clone)]
-pub struct State {
-    pub numbers: [u64; NUMBERS],
-    pub places: [f64; SCORES],
+/// A threshold of 8 bits at the state's depth: times the depth, over 8.
+fn at_depth(s: &State, threshold: f64) -> f64 {
+    threshold * s.numbers[2] as f64 / 8.0
 }
 
-#[derive(Clone, Debug)]
-pub struct Call {
-    pub set: u64,
-    pub frame: u64,
-    pub previous: u64,
-    pub inter: Vec<f64>,
-    pub importance: Vec<f64>,
-    pub threshold: Vec<f64>,
+/// Whether frames are reduced.
+pub fn scaled(s: &State) -> bool {
+    s.mode() == FAST && s.numbers[0].min(s.numbers[1]) > 240
 }
 
-impl State {
-    pub fn mode(&self) -> u64 {
-        self.numbers[4]
-    }
-    /// A, rule 1.
-    pub fn ahead(&self) -> u64 {
-        if self.numbers[3] >= 5 { 5 } else { 0 }
-    }
-    pub fn offset(&self) -> u64 {
-        self.numbers[OFFSET]
-    }
-    pub fn entries(&self) -> Vec<Score> {
-        let count = self.numbers[COUNT].min(ROOM as u64) as usize;
-        self.places.chunks(SCORE).take(count).map(|c| [c[0], c[1], c[2], c[3], c[4]]).collect()
-    }
-    /// Entries below the count go to their places; the other places stay.
-    pub fn put(&mut self, offset: u64, entries: &[Score]) {
-        self.numbers[OFFSET] = offset;
-        self.numbers[COUNT] = entries.len() as u64;
-        for (place, entry) in self.places.chunks_mut(SCORE).zip(entries) {
-            place.copy_from_slice(entry);
-        }
-    }
-    /// A threshold of 8 bits at the state's depth: times the depth, over 8.
-    fn at_depth(&self, threshold: f64) -> f64 {
-        threshold * self.numbers[2] as f64 / 8.0
-    }
-    pub fn scaled(&self) -> bool {
-        self.mode() == FAST && self.numbers[0].min(self.numbers[1]) > 240
-    }
+/// A fresh detector's state over what stood there: the numbers before the pair numbers are written, these and the scores stay.
+pub fn fresh(settings: &[u64; 7], before: &State) -> State {
+    let mut s = before.clone();
+    s.numbers[..PAIRS].fill(0);
+    s.numbers[..7].copy_from_slice(settings);
+    s.numbers[OFFSET] = s.ahead();
+    s
 }
 
 pub fn fresh_fault(n: &[u64; 7]) -> u32 {
@@ -111,7 +78,37 @@ fn state_fault(s: &State) -> bool {
     if n[COUNT] == 0 {
         return n[OFFSET] != s.ahead();
     }
-    n[OFFSET] >= n[COUNT] || s.entries().iter().any(|e| bad_inter(e[0]))
+    n[OFFSET] >= n[COUNT] || s.entries().iter().any(|e| bad_inter(e.score[0])) || entries_fault(s)
+}
+
+/// What document 02's L5 adds to 11, for a state with entries, in its order and words. Sums are exact numbers.
+fn entries_fault(s: &State) -> bool {
+    let (n, mode, pairs) = (&s.numbers, s.mode(), s.pairs());
+    let exact = |x: u64| u128::from(x);
+    // "Entries in None mode or before any accepted call."
+    if mode == NONE {
+        return true;
+    }
+    if n[LAST] == 0 {
+        return true;
+    }
+    // "Two neighbours' numbers that neither fall by one nor are equal": the front one of two comes first.
+    let neighbours = pairs.windows(2).map(|two| (exact(two[0]), exact(two[1])));
+    if neighbours.clone().any(|(front, back)| front != back + 1 && front != back) {
+        return true;
+    }
+    // "More than one equal pair of neighbours."
+    if neighbours.filter(|(front, back)| front == back).count() > 1 {
+        return true;
+    }
+    // "Where the last length is above A, a front number other than last number + o."
+    n[LENGTH] > s.ahead() && exact(pairs[0]) != exact(n[LAST]) + exact(n[OFFSET])
+}
+
+/// Refusal 7.
+fn number_fault(s: &State, c: &Call) -> bool {
+    let before = s.numbers[LAST] != 0;
+    c.frame == 0 || c.frame >= 1 << 32 || c.previous > c.frame || (before && c.frame - 1 != s.numbers[LAST])
 }
 
 /// Refusal 10.
@@ -131,7 +128,7 @@ pub fn step_fault(lengths: (u64, u64), s: &State, c: &Call) -> u32 {
         return 11;
     }
     let before = s.numbers[LAST] != 0;
-    if c.frame == 0 || c.frame >= 1 << 32 || c.previous > c.frame || (before && c.frame - 1 != s.numbers[LAST]) {
+    if number_fault(s, c) {
         return 7;
     }
     if c.set > SET_LIMIT || (before && c.set > s.numbers[LENGTH]) {
@@ -205,13 +202,13 @@ fn rules(s: &State, c: &Call, next: &mut State) -> i64 {
     2 + i64::from(cut)
 }
 
-/// Scores item k and puts it in front.
-fn score(s: &State, c: &Call, offset: u64, entries: &mut Vec<Score>, k: u64, repeat: bool) {
-    let at = k as usize;
+/// Scores item k and puts it in front. It is pair n + k, the first time and where it is scored again.
+fn score(s: &State, c: &Call, offset: u64, entries: &mut Vec<Entry>, k: u64, repeat: bool) {
+    let (at, pair) = (k as usize, c.frame + k);
     let inter = c.inter[at];
     if s.mode() == FAST {
-        let delta = if repeat && s.scaled() { 0.0 } else { inter };
-        entries.insert(0, [delta, delta, delta, delta, s.at_depth(18.0)]);
+        let delta = if repeat && scaled(s) { 0.0 } else { inter };
+        entries.insert(0, Entry { pair, score: [delta, delta, delta, delta, at_depth(s, 18.0)] });
         return;
     }
     let mut backward = 0.0;
@@ -220,7 +217,7 @@ fn score(s: &State, c: &Call, offset: u64, entries: &mut Vec<Score>, k: u64, rep
         if c.frame + k != 1 {
             backward = f64::MAX;
             for entry in &entries[..first] {
-                let difference = inter - entry[0];
+                let difference = inter - entry.score[0];
                 if difference < backward {
                     backward = difference;
                 }
@@ -231,22 +228,23 @@ fn score(s: &State, c: &Call, offset: u64, entries: &mut Vec<Score>, k: u64, rep
             }
         }
         for (i, entry) in entries[..first].iter_mut().enumerate() {
-            let difference = entry[0] - inter;
-            if i == 0 || difference < entry[3] {
-                entry[3] = difference;
+            let difference = entry.score[0] - inter;
+            let forward = &mut entry.score[3];
+            if i == 0 || difference < *forward {
+                *forward = difference;
             }
-            if entry[3] < 0.0 {
-                entry[3] = 0.0;
+            if *forward < 0.0 {
+                *forward = 0.0;
             }
         }
     }
-    entries.insert(0, [inter, c.importance[at], backward, 0.0, c.threshold[at]]);
+    entries.insert(0, Entry { pair, score: [inter, c.importance[at], backward, 0.0, c.threshold[at]] });
 }
 
-fn decide(s: &State, offset: usize, entries: &[Score]) -> bool {
-    let over_forward = |e: &&Score| e[3] >= e[4];
-    let over_backward = |e: &&Score| e[2] >= e[4];
-    let important = entries[offset..].iter().any(|e| e[1] >= s.at_depth(7.0));
+fn decide(s: &State, offset: usize, entries: &[Entry]) -> bool {
+    let over_forward = |e: &&Entry| e.score[3] >= e.score[4];
+    let over_backward = |e: &&Entry| e.score[2] >= e.score[4];
+    let important = entries[offset..].iter().any(|e| e.score[1] >= at_depth(s, 7.0));
     if !important || !over_forward(&&entries[offset]) {
         return false;
     }

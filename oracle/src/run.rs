@@ -1,7 +1,7 @@
 //! A film and the crate's detector over it.
 use std::sync::Arc;
 
-use fed::{SceneChangeDetector, SceneDetectionSpeed, ScenecutResult};
+use fed::{SceneChangeDetector, SceneDetectionSpeed};
 use num_rational::Rational32;
 use v_frame::{
     chroma::ChromaSubsampling,
@@ -10,10 +10,12 @@ use v_frame::{
 };
 
 use crate::attempt::attempt;
+use crate::counted::{Answer, Counted, result};
 use crate::random::Random;
-use crate::reading::{Call, FAST, NONE, STANDARD, Score, State};
+use crate::reading::{FAST, NONE, STANDARD, scaled};
 use crate::sizes::{COUNT, OFFSET, ROOM, SET_LIMIT};
-use crate::values::Taste;
+use crate::state::{Call, Entry, State};
+use crate::values::{Taste, same};
 
 /// Its frames carry marks in place of samples, at any depth: the sample's word bears on nothing here.
 pub type Detector = SceneChangeDetector<u8>;
@@ -50,20 +52,14 @@ pub fn possible(s: &State) -> bool {
     s.numbers[3] <= LOOKAHEAD_MOST
 }
 
-/// What the crate answers, its offset and entries after the call, and the score that it gives.
-pub struct Answer {
-    pub answer: i64,
-    pub offset: u64,
-    pub entries: Vec<Score>,
-    pub given: Option<Score>,
-}
-
 /// A film from frame `first − 1` on: each frame carries the measures of the pair that it ends.
 pub struct Film {
     first: u64,
     frames: Vec<Arc<Frame<u8>>>,
     /// Whether the crate's code can have made these deltas.
     pub real: bool,
+    /// Whether each entry's inter cost is its frame's: where frames are reduced an item's second score is 0.
+    is_plain: bool,
 }
 
 impl Film {
@@ -78,22 +74,22 @@ impl Film {
                 _ => taste.inter(r),
             };
             let fed = Fed { inter, importance: taste.importance(r, depth), threshold: taste.threshold(r) };
-            Arc::new(Frame::of(Plane::marked(Mark { frame: first + i, difference }), fed))
+            Arc::new(Frame::of(Plane::marked(Mark { frame: first - 1 + i, difference }), fed))
         });
         let frames = frames.collect();
-        Film { first, frames, real }
+        Film { first, frames, real, is_plain: !scaled(s) }
     }
 
     /// A film in which every pair has the same measures; in Fast mode the delta times the number of samples is a whole number.
     pub fn fixed(s: &State, first: u64, [inter, importance, threshold]: [f64; 3]) -> Film {
         let difference = (inter * detector(&s.numbers).door_pixels() as f64) as u64;
         let fed = Fed { inter, importance, threshold };
-        let frame = |i| Arc::new(Frame::of(Plane::marked(Mark { frame: first + i, difference }), fed));
-        Film { first, frames: (0..BEYOND).map(frame).collect(), real: true }
+        let frame = |i| Arc::new(Frame::of(Plane::marked(Mark { frame: first - 1 + i, difference }), fed));
+        Film { first, frames: (0..BEYOND).map(frame).collect(), real: true, is_plain: !scaled(s) }
     }
 
     fn frame(&self, number: u64) -> Option<&Arc<Frame<u8>>> {
-        self.frames.get((number + 1 - self.first) as usize)
+        self.frames.get((number + 1).checked_sub(self.first)? as usize)
     }
 
     /// The call for frame n with a set of so many frames: item k is pair n + k.
@@ -122,27 +118,29 @@ impl Film {
     }
 
     /// The crate's detector in a given state, about to be called for frame n.
-    pub fn placed(&self, s: &State, n: u64) -> Detector {
-        placed(s, self.frame((n + s.offset()).saturating_sub(1)))
+    pub fn placed(&self, s: &State, n: u64) -> Counted {
+        Counted::new(placed(s, self.frame((n + s.offset()).saturating_sub(1))), s.pairs())
     }
 
     /// The crate's answer; nothing where it panics.
-    pub fn ask(&self, d: &mut Detector, c: &Call) -> Option<Answer> {
+    pub fn ask(&self, d: &mut Counted, c: &Call) -> Option<Answer> {
         let start = c.frame.checked_sub(self.first)? as usize;
         let set: Vec<_> = self.frames.get(start..start.checked_add(c.set as usize)?)?.iter().collect();
-        let (n, p) = (c.frame as usize, c.previous as usize);
-        let (cut, given) = attempt(|| d.analyze_next_frame(&set, n, p))?;
-        let (offset, entries) = d.door_look();
-        let entries: Vec<Score> = entries.iter().map(score).collect();
-        let answer = i64::from(cut) + 2 * i64::from(given.is_some());
-        Some(Answer { answer, offset: offset as u64, entries, given: given.map(|g| score(&g)) })
+        let mut answer = d.ask(&set, c.frame as usize, c.previous as usize)?;
+        answer.is_counted &= !self.is_plain || answer.entries[..d.scored].iter().all(|e| self.carries(e));
+        Some(answer)
+    }
+
+    /// Whether an entry's inter cost is that of the frame which its pair number names.
+    fn carries(&self, e: &Entry) -> bool {
+        self.frame(e.pair).is_some_and(|f| same(f.fed.inter, e.score[0]))
     }
 }
 
 /// A detector in a given state. Where it has entries, it keeps the plane that was compared last.
 fn placed(s: &State, last: Option<&Arc<Frame<u8>>>) -> Detector {
     let mut d = detector(&s.numbers);
-    let entries: Vec<ScenecutResult> = s.entries().iter().map(result).collect();
+    let entries: Vec<_> = s.entries().iter().map(result).collect();
     let kept = if entries.is_empty() { None } else { last.map(|f| &**f) };
     d.door_put(s.offset() as usize, &entries, kept);
     d
@@ -175,18 +173,4 @@ pub fn ask_refused(s: &State, c: &Call, fault: u32) -> Option<bool> {
     let mut d = placed(s, frames.get(s.offset() as usize));
     let (n, p) = (c.frame as usize, c.previous as usize);
     Some(attempt(|| d.analyze_next_frame(&set, n, p)).is_some())
-}
-
-fn score(e: &ScenecutResult) -> Score {
-    [e.inter_cost, e.imp_block_cost, e.backward_adjusted_cost, e.forward_adjusted_cost, e.threshold]
-}
-
-fn result(s: &Score) -> ScenecutResult {
-    ScenecutResult {
-        inter_cost: s[0],
-        imp_block_cost: s[1],
-        backward_adjusted_cost: s[2],
-        forward_adjusted_cost: s[3],
-        threshold: s[4],
-    }
 }

@@ -1,9 +1,16 @@
 //! What was asked, and where the crate's code and the reading of document 01 differ.
 use std::collections::BTreeMap;
 
+use crate::counted::Answer;
+
 #[derive(Default)]
 pub struct Tally {
     pub calls: u64,
+    /// Pair numbers counted beside the crate's deque, after each call that has a score; calls that fill an empty deque, and those
+    /// that score an item twice.
+    pub pairs: u64,
+    pub fills: u64,
+    pub repeats: u64,
     pub cuts: u64,
     pub measures: u64,
     pub films: u64,
@@ -30,10 +37,25 @@ impl Tally {
         self.refused.entry(number).or_default()[ran as usize] += 1;
     }
 
+    /// A detector call that the crate answers.
+    pub fn asked(&mut self, theirs: &Answer) {
+        self.calls += 1;
+        self.pairs += if theirs.given.is_some() { theirs.entries.len() as u64 } else { 0 };
+        self.fills += u64::from(theirs.fills);
+        self.repeats += u64::from(theirs.repeats);
+    }
+
     pub fn differs(&mut self, what: &str) {
         self.different += 1;
         if self.different <= 5 {
             eprintln!("oracle: the crate and document 01 differ: {what}");
+        }
+    }
+
+    /// Whether the refusal that is due at an edge was given.
+    pub fn due(&mut self, is_due: bool) {
+        if !is_due {
+            self.differs("another refusal is due");
         }
     }
 
@@ -50,6 +72,10 @@ impl Tally {
             self.read_logs,
             self.cuts,
             self.different
+        );
+        eprintln!(
+            "oracle: beside the crate's deque {} pair numbers were counted; {} calls fill an empty one, {} score an item twice",
+            self.pairs, self.fills, self.repeats
         );
         for (number, [stopped, through, not]) in &self.refused {
             eprintln!("oracle: refusal {number:2}: the crate stopped {stopped}, ran {through}, was not asked {not}");

@@ -1,8 +1,8 @@
 //! In place of the published file where all three measures are fed: a score is made of the numbers that the second frame
-//! carries. The rest of the crate is as published.
+//! carries, and which frame that is, and by what number the crate calls it, is noted. The rest of the crate is as published.
 use std::sync::Arc;
 
-use v_frame::{frame::Frame, pixel::Pixel};
+use v_frame::{frame::Frame, pixel::Pixel, watch};
 
 use super::{SceneChangeDetector, ScenecutResult};
 
@@ -11,8 +11,11 @@ impl<T: Pixel> SceneChangeDetector<T> {
         &mut self,
         _frame1: &Arc<Frame<T>>,
         frame2: &Arc<Frame<T>>,
-        _input_frameno: usize,
+        input_frameno: usize,
     ) -> ScenecutResult {
+        if let Some(mark) = frame2.y_plane.mark {
+            watch::note(mark.frame, Some(input_frameno as u64));
+        }
         ScenecutResult {
             inter_cost: frame2.fed.inter,
             imp_block_cost: frame2.fed.importance,
