@@ -79,6 +79,7 @@ impl Paper {
             Kind::Append => self.append(&mut r),
             Kind::Reduce => self.reduce(&mut r, &BYTE),
             Kind::Reduce16 => self.reduce(&mut r, &DEEP),
+            Kind::StripsStart | Kind::StripsAdd | Kind::StripsEnd | Kind::StripsAdd16 => r.0 = &[],
             Kind::End | Kind::Film | Kind::Film16 => (),
         }
         assert!(matches!(kind, Kind::End | Kind::Film | Kind::Film16) || r.0.is_empty());
