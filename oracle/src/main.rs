@@ -146,12 +146,14 @@ fn strips<T: Sample>(desk: &mut Desk, r: &mut Random, count: u64) {
     strips_edges::all::<T>(desk, r);
     strips_edges::large::<T>(desk);
     for _ in 0..count / 20 + 20 {
-        strips_cases::film::<T>(desk, r);
+        let sides = strips_cases::sides(r);
+        strips_cases::film::<T>(desk, r, sides);
         strips_calls::start(desk, r);
-        strips_calls::end(desk, r);
+        strips_calls::end(desk, r, sides);
     }
     for _ in 0..count / 5 + 20 {
-        strips_calls::add::<T>(desk, r);
+        let sides = strips_cases::sides(r);
+        strips_calls::add::<T>(desk, r, sides);
     }
 }
 

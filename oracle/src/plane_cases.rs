@@ -28,7 +28,7 @@ pub fn side(r: &mut Random) -> u64 {
 }
 
 /// The value of each sample of a picture, by one of several tastes.
-fn picture<T: Sample>(r: &mut Random, depth: u64, size: usize) -> Vec<T> {
+pub fn picture<T: Sample>(r: &mut Random, depth: u64, size: usize) -> Vec<T> {
     let most = most(depth);
     let (taste, base, near) = (r.below(6), r.below(most + 1), r.from_to(28, 36));
     let sample = |_| match taste {

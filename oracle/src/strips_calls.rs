@@ -2,7 +2,7 @@
 use crate::deep_cases::{LARGEST, exceed};
 use crate::desk::Desk;
 use crate::measures_reading::Lent;
-use crate::plane_cases::{lent, side};
+use crate::plane_cases::{lent, picture};
 use crate::random::Random;
 use crate::sample::{Sample, most};
 use crate::sizes::CARRY;
@@ -28,8 +28,7 @@ fn total(r: &mut Random, depth: u64, samples: u64) -> u64 {
 }
 
 /// A carry after some rows, with totals that it may have, but where another depth's edge was drawn.
-fn carry(r: &mut Random, depth: u64) -> Vec<u64> {
-    let (width, height) = (side(r), if r.once_in(6) { r.from_to(56, 200) } else { side(r) });
+fn carry(r: &mut Random, depth: u64, (width, height): (u64, u64)) -> Vec<u64> {
     let any = r.below(height + 1);
     let rows = r.of(&[0, any, any, any, any / HELD * HELD, height]);
     vec![width, height, depth, rows, total(r, depth, rows * width), total(r, depth, rows * width)]
@@ -57,16 +56,16 @@ fn spoil<T: Sample>(r: &mut Random, depth: u64, width: u64, room: &mut [T]) {
     }
 }
 
-/// A call that is sound, but where `rows` or `total` drew what is not.
-fn call<T: Sample>(r: &mut Random) -> Call<T> {
-    let depth = T::depth(r);
-    let carry = carry(r, depth);
-    let (width, rows) = (carry[WIDTH], rows(r, carry[HEIGHT] - carry[ROWS]));
+/// A call that is sound, but where `rows` or `total` drew what is not. The room's rows are those of two planes.
+fn call<T: Sample>(r: &mut Random, sides: (u64, u64)) -> Call<T> {
+    let (depth, (width, height)) = (T::depth(r), sides);
+    let carry = carry(r, depth, sides);
+    let rows = rows(r, height - carry[ROWS]);
     let [a, b] = [0; 2].map(|_| lent::<T>(r, depth, width, rows.max(1)));
     let (a, b) = (strip(r, &a, 0, rows), strip(r, &b, 0, rows));
-    let height = carry[HEIGHT];
     let mut kept = kept::<T>(r, carry, width, height);
-    kept.room.iter_mut().for_each(|s| *s = T::of(s.number() & most(depth)));
+    let held = picture(r, depth, (2 * HELD * width) as usize);
+    kept.room[..held.len()].copy_from_slice(&held);
     if T::IS_DEEP && r.once_in(3) {
         spoil(r, depth, width, &mut kept.room);
     }
@@ -170,8 +169,8 @@ fn hurts(r: &mut Random, order: u64) -> Vec<u64> {
     hurts
 }
 
-pub fn add<T: Sample>(desk: &mut Desk, r: &mut Random) {
-    let mut c = call::<T>(r);
+pub fn add<T: Sample>(desk: &mut Desk, r: &mut Random, sides: (u64, u64)) {
+    let mut c = call::<T>(r, sides);
     for at in hurts(r, ORDER) {
         hurt(r, at, &mut c);
     }
@@ -195,9 +194,9 @@ pub fn start(desk: &mut Desk, r: &mut Random) {
 }
 
 /// 11, 5, 18.
-pub fn end(desk: &mut Desk, r: &mut Random) {
+pub fn end(desk: &mut Desk, r: &mut Random, sides: (u64, u64)) {
     let depth = r.of(&[8, 10, 12]);
-    let mut carry = carry(r, depth);
+    let mut carry = carry(r, depth, sides);
     carry[ROWS] = carry[HEIGHT];
     for at in hurts(r, 3) {
         match at {

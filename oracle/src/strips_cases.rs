@@ -81,17 +81,17 @@ fn end_known(desk: &mut Desk, carry: &[u64], due: Result<[u64; 3], u32>) {
 
 /// A strip of no rows: its stride and origin may be any, and it needs no samples.
 fn empty<T: Sample>(r: &mut Random, width: u64) -> Lent<T> {
-    let samples = (0..r.of(&[0, 0, 1, 9])).map(|_| T::of(r.word())).collect();
+    let samples = vec![T::of(r.word()); r.of(&[0, 0, 1, 9])];
     Lent { samples, width, height: 0, stride: r.of(&[width, width + 3, u64::MAX]), origin: r.of(&[0, 5, 1 << 63, u64::MAX]) }
 }
 
-/// Some rows of a plane in a memory of their own. What is not visible there is of any kind.
+/// Some rows of a plane in a memory of their own. What is not visible there is any word.
 pub fn strip<T: Sample>(r: &mut Random, of: &Lent<T>, from: u64, rows: u64) -> Lent<T> {
     if rows == 0 {
         return empty(r, of.width);
     }
     let (mut l, len) = shaped(r, of.width, rows);
-    l.samples = (0..len).map(|_| T::of(r.word())).collect();
+    l.samples = vec![T::of(r.word()); len];
     for y in 0..rows {
         let (at, row) = (l.place(0, y), of.place(0, from + y));
         l.samples[at..at + of.width as usize].copy_from_slice(&of.samples[row..row + of.width as usize]);
@@ -118,11 +118,10 @@ fn cuts(r: &mut Random, height: u64) -> Vec<u64> {
     cuts
 }
 
-/// Any words of a room and of costs, as many as there must be and some more.
+/// A room and costs, as many as there must be and some more: they hold any word.
 pub fn kept<T: Sample>(r: &mut Random, carry: Vec<u64>, width: u64, height: u64) -> Kept<T> {
     let (room, costs) = (2 * HELD * width + r.of(&[0, 0, 1, 40]), (width / 8) * (height / 8) + r.below(3));
-    let room = (0..room).map(|_| T::of(r.word())).collect();
-    Kept { carry, room, costs: (0..costs).map(|_| r.word() as u32).collect() }
+    Kept { carry, room: vec![T::of(r.word()); room as usize], costs: vec![r.word() as u32; costs as usize] }
 }
 
 /// What the crate measures of the whole planes: the end's numbers, and the second one's costs.
@@ -153,14 +152,13 @@ pub fn film_of<T: Sample>(desk: &mut Desk, r: &mut Random, depth: u64, a: &Lent<
     desk.tally.strips += cuts.len() as u64;
 }
 
-/// A height that has many rows of blocks, or is as others are.
-fn height(r: &mut Random) -> u64 {
-    if r.once_in(6) { r.from_to(56, 200) } else { side(r) }
+/// The sides of frames. One in six has many rows of blocks.
+pub fn sides(r: &mut Random) -> (u64, u64) {
+    (side(r), if r.once_in(6) { r.from_to(56, 200) } else { side(r) })
 }
 
-pub fn film<T: Sample>(desk: &mut Desk, r: &mut Random) {
+pub fn film<T: Sample>(desk: &mut Desk, r: &mut Random, (width, height): (u64, u64)) {
     let depth = T::depth(r);
-    let (width, height) = (side(r), height(r));
     let (a, mut b) = (lent::<T>(r, depth, width, height), lent::<T>(r, depth, width, height));
     if r.once_in(4) {
         (b.samples, b.stride, b.origin) = (a.samples.clone(), a.stride, a.origin);

@@ -99,11 +99,11 @@ impl Tally {
 
     fn print_strips(&self) {
         eprintln!(
-            "oracle: strips: the crate measured {} films that came in {} of them; the reading answered {} calls",
+            "oracle: {} films, measured whole by the crate, came in {} strips; the reading answered {} calls of strips",
             self.strip_films, self.strips, self.strip_calls
         );
         let said = |((call, _), (first, next, count)): (&(&str, usize), &(u32, u32, u64))| format!("{call} {first} and {next} {count}");
         let pairs: Vec<String> = self.neighbours.iter().map(said).collect();
-        eprintln!("oracle: strips: refusals that both apply, of those that are neighbours: {}", pairs.join(", "));
+        eprintln!("oracle: strips: of two refusals that are tested one after the other both apply: {}", pairs.join(", "));
     }
 }
