@@ -1,4 +1,5 @@
-//! The sizes of a state, of a set and of a carry, and the places of a state's numbers, as the C header has them: no number stands twice.
+//! The sizes of a state, of a set and of a carry, and the places of a state's numbers, as the C header has them: no number
+//! stands twice.
 //! BRINE_HEADER names the header for the compiler.
 
 const HEADER: &[u8] = include_bytes!(env!("BRINE_HEADER"));

@@ -133,7 +133,8 @@ fn whole<T: Sample>(desk: &mut Desk, depth: u64, a: &Lent<T>, b: &Lent<T>) -> ([
     ([b.blocks(), difference, total], costs)
 }
 
-/// Both planes come in strips of so many rows, from the start to the end. Each strip has a stride, an origin and a memory of its own.
+/// Both planes come in strips of so many rows, from the start to the end. Each strip has a stride, an origin and a memory of its
+/// own.
 pub fn film_of<T: Sample>(desk: &mut Desk, r: &mut Random, depth: u64, a: &Lent<T>, b: &Lent<T>, cuts: &[u64]) {
     let (measures, costs) = whole(desk, depth, a, b);
     let mut carry: Vec<u64> = (0..CARRY).map(|_| r.word()).collect();

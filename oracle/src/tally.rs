@@ -102,8 +102,8 @@ impl Tally {
             "oracle: {} films, measured whole by the crate, came in {} strips; the reading answered {} calls of strips",
             self.strip_films, self.strips, self.strip_calls
         );
-        let said = |((call, _), (first, next, count)): (&(&str, usize), &(u32, u32, u64))| format!("{call} {first} and {next} {count}");
-        let pairs: Vec<String> = self.neighbours.iter().map(said).collect();
+        let pairs = self.neighbours.iter().map(|((call, _), (first, next, count))| format!("{call} {first} and {next} {count}"));
+        let pairs: Vec<String> = pairs.collect();
         eprintln!("oracle: strips: of two refusals that are tested one after the other both apply: {}", pairs.join(", "));
     }
 }
