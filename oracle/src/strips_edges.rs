@@ -76,13 +76,13 @@ fn changes<T: Sample>() -> [(u32, Change<T>); 9] {
 
 /// Each alone, and with each of those behind it.
 fn orders<T: Sample>(desk: &mut Desk, depth: u64) {
-    let (changes, none): (_, Change<T>) = (changes(), |_| ());
+    let changes = changes::<T>();
     let large: Change<T> = |c| c.b.samples[WIDE as usize - 1] = T::of(1 << c.kept.carry[DEPTH]);
     for (at, &(due, change)) in changes.iter().enumerate() {
-        for (_, next) in &changes[at + 1..] {
-            add(desk, depth, &[change, *next], due);
+        add(desk, depth, &[change], due);
+        for &(_, next) in &changes[at + 1..] {
+            add(desk, depth, &[change, next], due);
         }
-        add(desk, depth, &[change, none], due);
     }
     if T::IS_DEEP {
         add(desk, depth, &[large], 16);
@@ -108,11 +108,11 @@ fn carries<T: Sample>(desk: &mut Desk, depth: u64) {
     add::<T>(desk, depth, &[|c| (DIFFERENCE..=TOTAL).for_each(|at| c.kept.carry[at] = COME * WIDE * most(c.kept.carry[DEPTH]))], 0);
     // The largest sample is that of the carry's depth, whatever the word is; where that is none, 5 follows.
     let other = if depth == 8 { 12 } else { 8 };
-    for (total, is_deep) in [(255, true), (255, false), (4095, true)] {
+    for (depth_of_carry, total) in [(other, 255), (other, 4095), (9, u64::MAX / 4096)] {
         let mut c = sound::<T>(depth);
-        let to = if is_deep { other } else { 9 };
-        (c.kept.carry[DEPTH], c.kept.carry[TOTAL]) = (to, COME * WIDE * total);
-        is_due(desk, fault(&read::add_order(&c.kept, &c.a, &c.b)) == if to == 8 && total == 4095 { 11 } else { 5 });
+        (c.kept.carry[DEPTH], c.kept.carry[TOTAL]) = (depth_of_carry, COME * WIDE * total);
+        let due = if (depth_of_carry, total) == (8, 4095) { 11 } else { 5 };
+        is_due(desk, fault(&read::add_order(&c.kept, &c.a, &c.b)) == due);
         add_of(desk, &c.kept, &c.a, &c.b);
     }
 }
