@@ -91,7 +91,7 @@ fn finish(c: Carry, y: usize, room: &[u8], costs: &mut [u32]) -> u64
     let p = shape::held_plane(c, 0);
     let q = shape::held_plane(c, BLOCK_SIDE * c.width);
     let at = y * (c.width / BLOCK_SIDE);
-    let _count = intra::plane_costs(depth, q, room, &mut costs[at..]);
+//TMP    let _count = intra::plane_costs(depth, q, room, &mut costs[at..]);
     let Whole::Number(rise) = importance::importance_total(depth, p, room, q, room) else {
         return 0;
     };

@@ -48,7 +48,7 @@ fn match_fault(c: Carry, p: Plane, q: Plane, room: usize, costs: usize) -> u32
     if (width != q.width) | (p.height != q.height) | (width != own) {
         return 3;
     }
-    if (costs < carry::blocks(c)) | (room < 2 * BLOCK_SIDE * own) {
+    if (costs < crate::carry::blocks(c)) | (room < 2 * BLOCK_SIDE * own) {
         return 4;
     }
     0

@@ -1,0 +1,2 @@
+pub mod CarryLaws
+pub mod ShapeLaws
