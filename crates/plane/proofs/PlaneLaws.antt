@@ -9,7 +9,7 @@ use native.Mathlib.Omega.{arith}
 use lib.Dec.{ltb, leb, eqb}
 use lib.ListN.{length, getD, take, drop, length-take, length-drop}
 use lib.Seq.{getD-take, getD-drop}
-use borrow.Author.Tests.{lt-ltb, le-ltb, le-leb, lt-leb, ltb-false, leb-true, leb-false, eqb-true, eqb-false, eq-eqb, not-false}
+use borrow.Author.Tests.{lt-ltb, le-ltb, le-leb, lt-leb, ltb-false, leb-true, leb-false, eqb-true, eqb-false, eq-eqb, ne-eqb, not-false}
 use Rattle.answer.specs.Refusal.{refusal, _orElse_}
 use Rattle.answer.proofs.Laws.{or-no, or-none, or-both, or-given, passed, test-given, test-first, test-passed, test-later}
 use Rattle.plane.specs.declared.Plane.{Plane}
@@ -93,6 +93,18 @@ lies p n e =
       strides = s .2;
       within = ltb-false n (rowEnd p (p .height - 1)) (passed 1 (ltb n (rowEnd p (p .height - 1))) (t .1));
     }
+
+-- and the way back: a plane that keeps to this is not refused
+pub side-passes : (n : ℕ) → 0 < n → n ≤ maxSide → badSide n ≡ false
+unfolding badSide
+side-passes n some most = rw (ne-eqb n 0 (λ z. omega arith), le-ltb maxSide n most) refl
+
+pub not-refused : (p : Plane) (n : ℕ) → Lies p n → planeFault p n ≡ 0
+unfolding badPlane
+not-refused p n l =
+    let sides : badPlane p ≡ false =
+    rw (side-passes (p .width) (l .some-width) (l .width-most), side-passes (p .height) (l .some-height) (l .height-most), le-ltb (p .stride) (p .width) (l .strides)) refl in
+    sym (fault-none p n sides (le-leb (rowEnd p (p .height - 1)) n (l .within)))
 
 -- ---- its rows
 

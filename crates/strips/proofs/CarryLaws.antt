@@ -3,7 +3,7 @@ use mathlib.Core.Bool.{Bool, true, false, not, _||_, _&&_, cond}
 use mathlib.Core.List.{List}
 use mathlib.Core.Path.{_≡_, refl, sym, ap, _∙_}
 use Prim.Native.Nat.{ℕ, _-_, _*_, _/_, _≤_, _<_, _^_}
-use native.Mathlib.Nat.{mul-le-mul}
+use native.Mathlib.Nat.{mul-assoc, mul-le-mul}
 use native.Mathlib.Omega.{arith}
 use borrow.Author.Tests.{eq-eqb, ne-eqb, eqb-true, ltb-false, le-ltb, not-false}
 use lib.Dec.{ltb, eqb}
@@ -12,7 +12,7 @@ use Rattle.answer.specs.Refusal.{refusal}
 use Rattle.answer.proofs.Laws.{or-no, passed, test-given, test-passed}
 use Rattle.plane.specs.Blocks.{blockSide}
 use Rattle.plane.specs.Planes.{Word, byte, deep, suits, badSide, maxSide, wordFault}
-use Rattle.plane.proofs.PlaneLaws.{good-side}
+use Rattle.plane.proofs.PlaneLaws.{good-side, total-fits}
 use Rattle.plane.proofs.SampleLaws.{suited}
 use Rattle.strips.specs.declared.carry.Carry.{Carry}
 use Rattle.strips.specs.Carry.{carryLong, carryOf, blocksIn, totalsMost, totalsPast, carryUnfit, isCarry, carryFault}
@@ -129,3 +129,22 @@ blocks-most c w h =
     let down : c .height / blockSide ≤ maxSide = omega arith in
     let along : c .width / blockSide ≤ maxSide = omega arith in
     mul-le-mul down along
+
+-- at a depth that suits a word the largest sample has 12 bits at most, and the totals are small
+pub most-small : (word : Word) (depth : ℕ) → wordFault word depth ≡ 0 → 2 ^ depth ≤ 4096
+most-small word depth e = go word (suited word depth e)
+  where
+    either : (a b : Bool) → (a ≡ true → 2 ^ depth ≤ 4096) → (b ≡ true → 2 ^ depth ≤ 4096) → a || b ≡ true → 2 ^ depth ≤ 4096
+    either true b f g e = f refl
+    either false b f g e = g e
+
+    go : (word : Word) → suits word depth ≡ true → 2 ^ depth ≤ 4096
+    go byte s = rw (eqb-true depth 8 s) (omega arith)
+    go deep s =
+        either (eqb depth 10) (eqb depth 12) (λ t. rw (eqb-true depth 10 t) (omega arith)) (λ t. rw (eqb-true depth 12 t) (omega arith)) s
+
+pub totals-small : (word : Word) (c : Carry) → Sound word c → totalsMost c < 2 ^ 42
+totals-small word c s =
+    let small = most-small word (c .depth) (s .depth-fits) in
+    let k : 2 ^ c .depth - 1 < 2 ^ 16 = omega arith in
+    omega (arith, mul-assoc (c .rows) (c .width) (2 ^ c .depth - 1), total-fits (c .rows) (c .width) (2 ^ c .depth - 1) (omega (arith, s .come, s .height-most)) (s .width-most) k)

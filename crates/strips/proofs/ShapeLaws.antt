@@ -10,7 +10,7 @@ use lib.Dec.{ltb, eqb}
 use lib.ListN.{length}
 use Rattle.answer.specs.Refusal.{refusal, _orElse_}
 use Rattle.answer.proofs.Laws.{or-no, or-none, or-both, or-given, or-later, passed, test-first, test-later, test-given, test-passed}
-use Rattle.plane.specs.Planes.{Word, badSide, depthFault, planeFault, sizesDiffer, sizesFault, wordFault}
+use Rattle.plane.specs.Planes.{Word, badSide, depthFault, planeFault, sizesDiffer, sizesFault, shapesFault, wordFault}
 use Rattle.plane.specs.declared.Plane.{Plane}
 use Rattle.strips.specs.declared.carry.Carry.{Carry}
 use Rattle.strips.specs.Carry.{carryLong, carryOf, blocksIn, carryUnfit, carryFault}
@@ -132,6 +132,17 @@ taken-known word c p n q m room costs f e =
       list = k .2;
       enough = k .3;
     }
+
+-- strips that have a row are planes that no measure refuses by its shape
+pub shapes-pass : (word : Word) (c : Carry) (p : Plane) (n : ℕ) (q : Plane) (m room costs : ℕ) → Taken word c p n q m room costs
+    → 0 < p .height → shapesFault word (c .depth) p n q m ≡ 0
+unfolding shapesFault
+shapes-pass word c p n q m room costs t some = or-both (wordFault word (c .depth)) (sizesFault p n q m) (t .carry .depth-fits) (t .sizes some)
+
+-- the room and the list may have other contents, if they stay as long
+pub taken-again : (word : Word) (c : Carry) (p : Plane) (n : ℕ) (q : Plane) (m : ℕ) {room costs room′ costs′ : ℕ}
+    → Taken word c p n q m room costs → room′ ≡ room → costs′ ≡ costs → Taken word c p n q m room′ costs′
+taken-again word c p n q m t e d = rw (e, d) t
 
 -- ---- the start
 

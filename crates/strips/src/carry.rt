@@ -91,7 +91,11 @@ pub fn carry_fault(numbers: &[u64]) -> u32
     if numbers.len() != CARRY {
         return 11;
     }
-    if carry_unfit(lent_carry(numbers)) { 11 } else { 0 }
+    if carry_unfit(lent_carry(numbers)) {
+        11
+    } else {
+        0
+    }
 }
 
 // How many whole blocks the planes have that the strips are cut from.

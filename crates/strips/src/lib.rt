@@ -14,7 +14,7 @@ ghost use Rattle.plane.specs.Planes.{byte, maxSide, shapesFault, tooLarge};
 ghost use Rattle.sad.specs.Difference.{planeSad};
 ghost use Rattle.strips.specs.Carry.{blocksAlong};
 ghost use Rattle.strips.specs.Needs.{Sound, Taken, held};
-ghost use Rattle.strips.specs.Rows.{roomLong, rowsLaid, blocksRise, blocksCosts, heldRow, heldRows};
+ghost use Rattle.strips.specs.Rows.{laid, roomLong, rowsLaid, blocksRise, blocksCosts, heldRow, heldRows};
 ghost use Rattle.strips.specs.Strips.{kept, strip, startOf, startAfter, addOf, addAfter, endOf, endAnswer};
 
 mod carry;
@@ -63,6 +63,14 @@ pub fn start(depth: u64, width: usize, height: usize, carry: &mut [u64]) -> Whol
 
 // ---- the rows
 
+// A row from a place of the room on.
+fn lay_row(room: &mut [u8], at: usize, row: &[u8])
+    requires { ⌜ at + length (now row) ≤ length (now room) ⌝ }
+    ensures { λ _. ⌜ now (room .exit) ≡ laid at (length (now (row .entry))) (λ (k : ℕ). getD (now (row .entry)) k 0) (now (room .entry)) ⌝ }
+{
+    sums::copy(&mut room[at..], row);
+}
+
 // A row of each frame to its place in the room.
 fn hold_row(c: Carry, y: usize, first: &[u8], second: &[u8], room: &mut [u8])
     requires { ⌜ c .width ≤ maxSide ⌝ }
@@ -72,10 +80,8 @@ fn hold_row(c: Carry, y: usize, first: &[u8], second: &[u8], room: &mut [u8])
 {
     let width = c.width;
     let slot = y % BLOCK_SIDE;
-    let at = slot * width;
-    sums::copy(&mut room[at..], first);
-    let at2 = (BLOCK_SIDE + slot) * width;
-    sums::copy(&mut room[at2..], second);
+    lay_row(room, slot * width, first);
+    lay_row(room, (BLOCK_SIDE + slot) * width, second);
 }
 
 // A row of blocks whose eighth row has come: its costs go to the list, and what the importance total rises by comes back.
@@ -91,7 +97,7 @@ fn finish(c: Carry, y: usize, room: &[u8], costs: &mut [u32]) -> u64
     let p = shape::held_plane(c, 0);
     let q = shape::held_plane(c, BLOCK_SIDE * c.width);
     let at = y * (c.width / BLOCK_SIDE);
-//TMP    let _count = intra::plane_costs(depth, q, room, &mut costs[at..]);
+    let _count = intra::plane_costs(depth, q, room, &mut costs[at..]);
     let Whole::Number(rise) = importance::importance_total(depth, p, room, q, room) else {
         return 0;
     };
@@ -100,7 +106,16 @@ fn finish(c: Carry, y: usize, room: &[u8], costs: &mut [u32]) -> u64
 
 // Row j of the strips: to the room, and where it is a row of blocks' eighth, the row of blocks is finished. What the importance total
 // rises by comes back.
-fn add_row(c: Carry, p: Plane, a: &[u8], q: Plane, b: &[u8], j: usize, room: &mut [u8], costs: &mut [u32]) -> u64
+fn add_row(
+    c: Carry,
+    p: Plane,
+    a: &[u8],
+    q: Plane,
+    b: &[u8],
+    j: usize,
+    room: &mut [u8],
+    costs: &mut [u32],
+) -> u64
     requires { ⌜ Taken byte c p (length (now a)) q (length (now b)) (length (now room)) (length (now costs)) ⌝ }
     requires { ⌜ j < p .height ⌝ }
     ensures { λ r. ⌜ ((t : ℕ) → held (t + r) (now (room .exit)) (now (costs .exit)) ≡ heldRow byte c (strip p (now (a .entry)) q (now (b .entry))) j (held t (now (room .entry)) (now (costs .entry)))) ⌝ }
@@ -115,7 +130,15 @@ fn add_row(c: Carry, p: Plane, a: &[u8], q: Plane, b: &[u8], j: usize, room: &mu
 }
 
 // All rows of the strips. What the importance total is then comes back.
-fn add_rows(c: Carry, p: Plane, a: &[u8], q: Plane, b: &[u8], room: &mut [u8], costs: &mut [u32]) -> u64
+fn add_rows(
+    c: Carry,
+    p: Plane,
+    a: &[u8],
+    q: Plane,
+    b: &[u8],
+    room: &mut [u8],
+    costs: &mut [u32],
+) -> u64
     requires { ⌜ Taken byte c p (length (now a)) q (length (now b)) (length (now room)) (length (now costs)) ⌝ }
     ensures { λ r. ⌜ held r (now (room .exit)) (now (costs .exit)) ≡ heldRows byte c (strip p (now (a .entry)) q (now (b .entry))) (p .height) (held (c .importance) (now (room .entry)) (now (costs .entry))) ⌝ }
 {
@@ -141,7 +164,15 @@ fn strip_difference(depth: u64, p: Plane, a: &[u8], q: Plane, b: &[u8]) -> Whole
 }
 
 // Takes matching strips of both frames: the rows that have come. A refused call writes nothing.
-pub fn add(carry: &mut [u64], p: Plane, a: &[u8], q: Plane, b: &[u8], room: &mut [u8], costs: &mut [u32]) -> Whole
+pub fn add(
+    carry: &mut [u64],
+    p: Plane,
+    a: &[u8],
+    q: Plane,
+    b: &[u8],
+    room: &mut [u8],
+    costs: &mut [u32],
+) -> Whole
     ensures { λ r. ⌜ wholeAnswer r ≡ addOf byte (kept (now (carry .entry)) (now (room .entry)) (now (costs .entry))) (strip p (now (a .entry)) q (now (b .entry))) ⌝ }
     ensures { λ _. ⌜ kept (now (carry .exit)) (now (room .exit)) (now (costs .exit)) ≡ addAfter byte (kept (now (carry .entry)) (now (room .entry)) (now (costs .entry))) (strip p (now (a .entry)) q (now (b .entry))) ⌝ }
 {

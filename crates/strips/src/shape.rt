@@ -55,7 +55,16 @@ fn match_fault(c: Carry, p: Plane, q: Plane, room: usize, costs: usize) -> u32
 }
 
 // The refusal of strips by their shapes, or 0. `word` is 5 where the carry's depth does not suit the samples' word, else 0.
-pub fn shape_fault(word: u32, c: Carry, p: Plane, n: usize, q: Plane, m: usize, room: usize, costs: usize) -> u32
+pub fn shape_fault(
+    word: u32,
+    c: Carry,
+    p: Plane,
+    n: usize,
+    q: Plane,
+    m: usize,
+    room: usize,
+    costs: usize,
+) -> u32
     requires { ⌜ carryUnfit c ≡ false ⌝ }
     ensures { λ r. ⌜ r ≡ shapeFault word c p n q m room costs ⌝ }
 {

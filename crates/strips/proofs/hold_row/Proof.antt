@@ -1,76 +1,40 @@
+-- `strips::hold_row` meets its contract: each row has a place of its own in the room. Assumes nothing.
+use mathlib.Core.Path.{_≡_, ap, _∙_}
+use Prim.Native.Nat.{ℕ, _*_, _%_}
+use native.Mathlib.Omega.{arith}
 use borrow.Author.Needs.{needs}
+use lib.ListN.{length, getD}
+use Rattle.strips.proofs.RowLaws.{first-place, second-place, length-laid, both-laid}
 use Rattle.strips.proofs.hold_row.Statement.{statement}
 use Rattle.strips.proofs.hold_row.Tie as tie
-use Rattle.strips.proofs.hold_row.Reads as reads
-use Rattle.strips.proofs.hold_row.Lts as lts
-use Rattle.sums.proofs.copy.Reads as copy-reads
 
--- src/lib.rt:75:14
-mul-at : tie.Need-mul-at
-mul-at c = ?
+mul-lay-row : tie.Need-mul-lay-row
+mul-lay-row c = let s = c .before .before .before .before in omega (arith, s .pre .0, first-place (s .args .y) (s .args .c .width))
 
--- src/lib.rt:76:16
-sub-copy : tie.Need-sub-copy
-sub-copy c = ?
+lay-row-requires : tie.Need-lay-row-requires
+lay-row-requires c κs =
+    let s = c .before .before .before .before in omega (arith, s .pre .1 .0, s .pre .1 .1 .0, first-place (s .args .y) (s .args .c .width))
 
--- src/lib.rt:76:16
-part-copy-start : tie.Need-part-copy-start
-part-copy-start c = ?
+mul-lay-row-2 : tie.Need-mul-lay-row-2
+mul-lay-row-2 c =
+    let s = c .before .before .before .before .before .before .before .before in omega (arith, s .pre .0, second-place (s .args .y) (s .args .c .width))
 
--- src/lib.rt:76:16
-part-copy-end : tie.Need-part-copy-end
-part-copy-end c = search needs
+lay-row-requires-2 : tie.Need-lay-row-requires-2
+lay-row-requires-2 c κs =
+    let s = c .before .before .before .before .before .before .before .before in
+    let l = c .before .before .before .lay-row in
+    let g = s .args in
+    let same : length (l .last .0) ≡ length (g .room .now) =
+    ap length (l .ensures) ∙ length-laid (g .y % 8 * g .c .width) (length (g .first .now)) (λ (k : ℕ). getD (g .first .now) k 0) (g .room .now) in
+    omega (arith, s .pre .1 .0, s .pre .1 .1 .1, second-place (s .args .y) (s .args .c .width), same)
 
--- src/lib.rt:76:5
-copy-requires : tie.Need-copy-requires
-copy-requires c κs = search needs
-
--- src/lib.rt:77:16
-add-at2 : tie.Need-add-at2
-add-at2 c = search needs
-
--- src/lib.rt:77:15
-mul-at2 : tie.Need-mul-at2
-mul-at2 c = ?
-
--- src/lib.rt:78:16
-sub-copy-2 : tie.Need-sub-copy-2
-sub-copy-2 c = ?
-
--- src/lib.rt:78:16
-part-copy-start-2 : tie.Need-part-copy-start-2
-part-copy-start-2 c = ?
-
--- src/lib.rt:78:16
-part-copy-end-2 : tie.Need-part-copy-end-2
-part-copy-end-2 c = search needs
-
--- src/lib.rt:78:5
-copy-requires-2 : tie.Need-copy-requires-2
-copy-requires-2 c κs = search needs
-
--- src/lib.rt:67:1
-same-length : tie.Need-same-length
-same-length c = search needs
-
--- src/lib.rt:67:1
 returns : tie.Need-returns
-returns c = ?
+returns c =
+    let two = c .before .before in
+    let one = two .before .before .before .before in
+    let s = one .before .before .before .before .before in
+    both-laid (s .args .c) (s .args .y) (s .args .first .now) (s .args .second .now) (s .args .room .now) _ _ (s .pre .1 .1 .0) (s .pre .1 .1 .1) (one .lay-row .ensures) (two .lay-row2 .ensures)
 
 pub hold-row-spec : {M : Type 1} → statement M
 hold-row-spec =
-    tie.close
-    (tie.spec
-    mul-at
-    sub-copy
-    part-copy-start
-    part-copy-end
-    copy-requires
-    add-at2
-    mul-at2
-    sub-copy-2
-    part-copy-start-2
-    part-copy-end-2
-    copy-requires-2
-    same-length
-    returns)
+    tie.close (tie.spec mul-lay-row lay-row-requires (λ c. search needs) mul-lay-row-2 lay-row-requires-2 (λ c. search needs) returns)

@@ -1,9 +1,10 @@
 -- `strips::start` meets its contract: 11, 5 and 1 in this order, and else the six numbers. Assumes nothing.
 use native.Mathlib.Omega.{arith}
+use mathlib.Core.Bool.{true, false, _||_}
 use mathlib.Core.Path.{_≡_, refl, sym, _∙_}
 use borrow.Author.Needs.{needs}
 use Rattle.answer.proofs.Laws.{answer-given, answer-refused, lent-written, lent-kept}
-use Rattle.plane.specs.Planes.{depthFault}
+use Rattle.plane.specs.Planes.{badSide, depthFault}
 use Rattle.strips.proofs.ShapeLaws.{start-long, start-depth, start-sides, started}
 use Rattle.strips.proofs.start.Statement.{statement}
 use Rattle.strips.proofs.start.Tie as tie
@@ -25,14 +26,23 @@ deep-enough c = sym (c .if2 .left) ∙ c .before .depth-fault .ensures
 
 returns-3 : tie.Need-returns-3
 returns-3 c =
-    let s = c .before in
-    let d = s .before .before in
-    let t = rw (← s .before .bad-side .ensures, ← s .bad-side2 .ensures) (c .if3 .taken) in
-    let e = start-sides _ _ _ _ (d .before .before .if1 .left) (deep-enough d) ? in
+    let k = c .before in
+    let d = k .before .before in
+    let s = d .before .before .before .before .args in
+    let t : badSide (s .width) || badSide (s .height) ≡ true = rw (← k .before .bad-side .ensures, ← k .bad-side2 .ensures) (c .if3 .taken) in
+    let e = start-sides _ _ _ _ (d .before .before .if1 .left) (deep-enough d) t in
     (answer-refused _ _ _ e (λ z. omega arith), lent-kept _ _ _ _ e (λ z. omega arith))
 
 returns-4 : tie.Need-returns-4
-returns-4 c = ?
+returns-4 c =
+    let p = c .before .before in
+    let l = p .before .before in
+    let k = l .before in
+    let d = k .before .before in
+    let s = d .before .before .before .before .args in
+    let t : badSide (s .width) || badSide (s .height) ≡ false = rw (← k .before .bad-side .ensures, ← k .bad-side2 .ensures) (l .if3 .left) in
+    let e = started _ _ _ _ (d .before .before .if1 .left) (deep-enough d) t in
+    (answer-given _ _ _ e refl, p .put-carry .ensures ∙ lent-written _ _ _ e)
 
 pub start-spec : {M : Type 1} → statement M
 start-spec =
