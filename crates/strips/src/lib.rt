@@ -18,6 +18,7 @@ ghost use Rattle.strips.specs.Rows.{laid, roomLong, rowsLaid, blocksRise
 ghost use Rattle.strips.specs.Strips.{kept, strip, startOf, startAfter, addOf, addAfter, endOf, endAnswer};
 
 mod carry;
+pub mod deep;
 mod shape;
 
 // What the end gives: the number of whole blocks, the difference and the importance total.
