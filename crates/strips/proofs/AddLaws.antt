@@ -1,26 +1,27 @@
 -- What a strip answers and leaves: refused in order, or taken. Assumes nothing.
-use mathlib.Core.Bool.{Bool, _||_}
+use mathlib.Core.Bool.{Bool, false, _||_}
 use mathlib.Core.List.{List}
 use mathlib.Core.Path.{_≡_, refl, sym, ap, _∙_}
-use Prim.Native.Nat.{ℕ, _+_, _≤_, _<_, _^_}
+use Prim.Native.Nat.{ℕ, _+_, _*_, _≤_, _<_, _^_}
 use native.Mathlib.Decide.{decLt}
 use native.Mathlib.Omega.{arith}
 use lib.ListN.{length, getD}
 use Rattle.answer.specs.Answer.{refused}
 use Rattle.answer.specs.Refusal.{refusal}
-use Rattle.answer.proofs.Laws.{or-given, or-later, answer-refused, lent-written, lent-kept}
-use Rattle.plane.specs.Planes.{Word, wordFault, tooLarge}
+use Rattle.answer.proofs.Laws.{or-given, or-later, or-none, passed, answer-refused, lent-written, lent-kept}
+use Rattle.plane.specs.Planes.{Word, maxSide, wordFault, tooLarge}
 use Rattle.plane.specs.declared.Plane.{Plane}
 use Rattle.plane.proofs.SampleLaws.{pair-fault-is}
 use Rattle.sad.specs.Difference.{planeSad}
 use Rattle.sad.proofs.SadLaws.{sad-most}
 use Rattle.strips.specs.declared.carry.Carry.{Carry}
-use Rattle.strips.specs.Carry.{carryBy, carryOf, carryNumbers, carryFault}
+use Rattle.strips.specs.Carry.{carryBy, carryOf, carryNumbers, blocksIn, carryFault}
 use Rattle.strips.specs.Needs.{Taken, held}
 use Rattle.strips.specs.Rows.{Strip, Held, heldRows}
 use Rattle.strips.proofs.RowLaws.{nothing}
-use Rattle.strips.proofs.ShapeLaws.{shapes-pass}
-use Rattle.strips.specs.Strips.{Kept, kept, shapeFault, addFault, addOf, addAfter, heldAfter, carryAfter, taken}
+use Rattle.strips.proofs.CarryLaws.{fit, carry-passed, blocks-most}
+use Rattle.strips.proofs.ShapeLaws.{shapes-pass, taken-known}
+use Rattle.strips.specs.Strips.{Kept, kept, shapeFault, addFault, addOf, addAfter, heldAfter, carryAfter, taken, endFault}
 
 -- the difference of strips that are not refused is small
 pub difference-small : (word : Word) (c : Carry) (p : Plane) (a : List ℕ) (q : Plane) (b : List ℕ) (room costs : ℕ)
@@ -91,3 +92,26 @@ module _ (word : Word) (k : Kept) (s : Strip) where
         ap (λ (l : List ℕ). kept l room costs) numbers
         ∙ ap (λ (x : Held). kept (carryNumbers (carryAfter (carryOf (k .carry)) s (heldAfter word k s .total))) (x .room) (x .costs)) here
         ∙ lent-written _ _ _ none
+
+-- what a strip that is not refused tells: the carry and the shapes fit, and no sample is too large
+pub add-known : (word : Word) (k : Kept) (s : Strip) → addFault word k s ≡ 0
+    → let c = carryOf (k .carry) in
+    Taken word c (s .first) (length (s .a)) (s .second) (length (s .b)) (length (k .room)) (length (k .costs))
+    × (tooLarge (c .depth) (s .first) (s .a) || tooLarge (c .depth) (s .second) (s .b) ≡ false)
+unfolding addFault
+add-known word k s e =
+    let c = carryOf (k .carry) in
+    let t = or-none (carryFault (k .carry)) _ e in
+    let u = or-none (shapeFault (wordFault word (c .depth)) c (s .first) (length (s .a)) (s .second) (length (s .b)) (length (k .room)) (length (k .costs))) _ (t .1) in (
+      taken-known word c (s .first) (length (s .a)) (s .second) (length (s .b)) (length (k .room)) (length (k .costs)) (carry-passed (k .carry) (t .0) .1) (u .0),
+      passed 15 _ (u .1),
+    )
+
+-- the numbers that are answered are small
+pub rows-small : (word : Word) (k : Kept) (s : Strip) → addFault word k s ≡ 0 → carryOf (k .carry) .rows + s .first .height ≤ maxSide
+rows-small word k s e = let t = add-known word k s e .0 in omega (arith, t .rows, t .carry .height-most)
+
+pub ended-small : (ns : List ℕ) → endFault ns ≡ 0 → blocksIn (carryOf ns) ≤ maxSide * maxSide
+unfolding endFault
+ended-small ns e =
+    let f = fit (carryOf ns) (carry-passed ns (or-none (carryFault ns) _ e .0) .1) in blocks-most (carryOf ns) (f .width-most) (f .height-most)
