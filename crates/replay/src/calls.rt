@@ -1,6 +1,7 @@
-// The calls that the list makes, by their letters: on numbers, on lists of entries, on the detector; the others are of planes,
-// of bytes and of 16 bits, and of logs.
+// The calls that the list makes, by their letters: on numbers, on lists of entries, on the detector; the others are of planes
+// and of strips, of bytes and of 16 bits, and of logs.
 use crate::deep;
+use crate::deep_strips;
 use crate::desk;
 use crate::desk::get;
 use crate::desk::half;
@@ -10,6 +11,7 @@ use crate::logs;
 use crate::memory;
 use crate::parts;
 use crate::planes;
+use crate::strips;
 
 // Room for a list of measures, and for three; for the numbers and the floats of a state; for entries.
 const LIST: usize = 64;
@@ -121,6 +123,8 @@ pub fn replay(letter: u8, desk: &mut [u64]) -> bool {
         b'P' | b'M' | b'D' | b'I' | b'B' | b'C' | b'T' | b'V' => planes::replay(letter, desk),
         b'Q' | b'O' | b'U' | b'J' | b'Y' | b'K' | b'W' => deep::replay(letter, desk),
         b'L' | b'R' | b'A' => logs::replay(letter, desk),
+        b'[' | b'X' | b']' => strips::replay(letter, desk),
+        b'Z' => deep_strips::replay(desk),
         b'H' | b'G' => transform(letter, desk),
         b'S' => scale(desk),
         b'E' => end(desk),

@@ -2,11 +2,13 @@
 // what it answers and writes is compared. A list that was changed, cut short or is no list fails too.
 mod calls;
 mod deep;
+mod deep_strips;
 mod desk;
 mod logs;
 mod memory;
 mod parts;
 mod planes;
+mod strips;
 mod tally;
 mod words;
 
