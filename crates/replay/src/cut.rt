@@ -6,7 +6,7 @@ use crate::desk::len;
 use crate::memory;
 use crate::parts;
 use crate::planes::shape_at;
-use brinepulley::strips;
+use brinepulley::camera;
 
 // Room for the carry, for both strips, for what is held of them, for costs.
 const CARRY: usize = 494;
@@ -21,7 +21,7 @@ const COSTS: usize = 64;
 
 // Depth, width, height; how many numbers are lent.
 fn start(desk: &[u64], carry: &mut [u64]) -> i64 {
-    strips::brine_strips_start(
+    camera::brine_strips_start(
         half(desk, 1),
         len(desk, 2),
         len(desk, 3),
@@ -40,7 +40,7 @@ fn end_in(desk: &[u64], carry: &mut [u64]) -> bool {
     memory::numbers(desk, carry, memory::STATE, true);
     let mut difference = desk::stands(desk, memory::DIFFERENCE, 0, true);
     let mut total = desk::stands(desk, memory::TOTAL, 0, true);
-    let answer = strips::brine_strips_end(
+    let answer = camera::brine_strips_end(
         parts::words(carry, 0, len(desk, 1)),
         &mut difference,
         &mut total,
@@ -66,7 +66,7 @@ fn add(
     let q = parts::samples(second, 0, b.n);
     let c = parts::room(costs, 0, len(desk, 12));
     let k = parts::work(room, 0, len(desk, 13));
-    strips::brine_strips_add(n, p, a.w, a.h, a.s, a.o, q, b.w, b.h, b.s, b.o, k, c)
+    camera::brine_strips_add(n, p, a.w, a.h, a.s, a.o, q, b.w, b.h, b.s, b.o, k, c)
 }
 
 // What is kept between two strips is filled, or compared.
