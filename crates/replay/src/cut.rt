@@ -6,7 +6,7 @@ use crate::desk::len;
 use crate::memory;
 use crate::parts;
 use crate::planes::shape_at;
-use brinepulley::camera;
+use brinepulley::sensor;
 
 // Room for the carry, for both strips, for what is held of them, for costs.
 const CARRY: usize = 494;
@@ -21,7 +21,7 @@ const COSTS: usize = 64;
 
 // Depth, width, height; how many numbers are lent.
 fn start(desk: &[u64], carry: &mut [u64]) -> i64 {
-    camera::brine_strips_start(
+    sensor::brine_strips_start(
         half(desk, 1),
         len(desk, 2),
         len(desk, 3),
@@ -40,7 +40,7 @@ fn end_in(desk: &[u64], carry: &mut [u64]) -> bool {
     memory::numbers(desk, carry, memory::STATE, true);
     let mut difference = desk::stands(desk, memory::DIFFERENCE, 0, true);
     let mut total = desk::stands(desk, memory::TOTAL, 0, true);
-    let answer = camera::brine_strips_end(
+    let answer = sensor::brine_strips_end(
         parts::words(carry, 0, len(desk, 1)),
         &mut difference,
         &mut total,
@@ -66,7 +66,7 @@ fn add(
     let q = parts::samples(second, 0, b.n);
     let c = parts::room(costs, 0, len(desk, 12));
     let k = parts::work(room, 0, len(desk, 13));
-    camera::brine_strips_add(n, p, a.w, a.h, a.s, a.o, q, b.w, b.h, b.s, b.o, k, c)
+    sensor::brine_strips_add(n, p, a.w, a.h, a.s, a.o, q, b.w, b.h, b.s, b.o, k, c)
 }
 
 // What is kept between two strips is filled, or compared.
@@ -85,38 +85,50 @@ fn kept(
 fn add_in(
     desk: &[u64],
     carry: &mut [u64],
-    first: &mut [u8],
-    second: &mut [u8],
+    first: &[u8],
+    second: &[u8],
     room: &mut [u8],
     costs: &mut [u32],
 ) -> bool {
-    memory::samples(desk, first, memory::FIRST, true);
-    memory::samples(desk, second, memory::SECOND, true);
     kept(desk, carry, room, costs, true);
     let answer = add(desk, carry, first, second, room, costs);
     kept(desk, carry, room, costs, false) & memory::is_due(desk, answer)
 }
 
-fn replay_add(desk: &[u64], carry: &mut [u64]) -> bool {
-    let mut p = [0u8; FIRST];
-    let mut q = [0u8; SECOND];
+// Over both strips, which are only read.
+fn add_to(desk: &[u64], first: &[u8], second: &[u8]) -> bool {
+    let mut carry = [0u64; CARRY];
     let mut room = [0u8; HELD];
     let mut costs = [0u32; COSTS];
     add_in(
         desk,
-        carry,
-        &mut p[..],
-        &mut q[..],
+        &mut carry[..],
+        first,
+        second,
         &mut room[..],
         &mut costs[..],
     )
 }
 
-pub fn replay(letter: u8, desk: &[u64]) -> bool {
+fn replay_add(desk: &[u64]) -> bool {
+    let mut p = [0u8; FIRST];
+    let mut q = [0u8; SECOND];
+    memory::samples(desk, &mut p[..], memory::FIRST, true);
+    memory::samples(desk, &mut q[..], memory::SECOND, true);
+    add_to(desk, &p[..], &q[..])
+}
+
+fn replay_ends(letter: u8, desk: &[u64]) -> bool {
     let mut carry = [0u64; CARRY];
-    match letter {
-        b'[' => start_in(desk, &mut carry[..]),
-        b']' => end_in(desk, &mut carry[..]),
-        _ => replay_add(desk, &mut carry[..]),
+    if letter == b'[' {
+        return start_in(desk, &mut carry[..]);
     }
+    end_in(desk, &mut carry[..])
+}
+
+pub fn replay(letter: u8, desk: &[u64]) -> bool {
+    if letter == b'X' {
+        return replay_add(desk);
+    }
+    replay_ends(letter, desk)
 }

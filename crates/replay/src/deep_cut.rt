@@ -3,7 +3,7 @@ use crate::desk::len;
 use crate::memory;
 use crate::parts;
 use crate::planes::shape_at;
-use brinepulley::deep;
+use brinepulley::sensor;
 
 const CARRY: usize = 494;
 
@@ -31,7 +31,7 @@ fn add(
     let q = parts::quarters(second, 0, b.n);
     let c = parts::room(costs, 0, len(desk, 12));
     let k = parts::deep_work(room, 0, len(desk, 13));
-    deep::brine_strips_add16(n, p, a.w, a.h, a.s, a.o, q, b.w, b.h, b.s, b.o, k, c)
+    sensor::brine_strips_add16(n, p, a.w, a.h, a.s, a.o, q, b.w, b.h, b.s, b.o, k, c)
 }
 
 // What is kept between two strips is filled, or compared.
@@ -50,30 +50,35 @@ fn kept(
 fn add_in(
     desk: &[u64],
     carry: &mut [u64],
-    first: &mut [u16],
-    second: &mut [u16],
+    first: &[u16],
+    second: &[u16],
     room: &mut [u16],
     costs: &mut [u32],
 ) -> bool {
-    memory::quarters(desk, first, memory::FIRST, true);
-    memory::quarters(desk, second, memory::SECOND, true);
     kept(desk, carry, room, costs, true);
     let answer = add(desk, carry, first, second, room, costs);
     kept(desk, carry, room, costs, false) & memory::is_due(desk, answer)
 }
 
-pub fn replay(desk: &[u64]) -> bool {
+// Over both strips, which are only read.
+fn add_to(desk: &[u64], first: &[u16], second: &[u16]) -> bool {
     let mut carry = [0u64; CARRY];
-    let mut p = [0u16; FIRST];
-    let mut q = [0u16; SECOND];
     let mut room = [0u16; HELD];
     let mut costs = [0u32; COSTS];
     add_in(
         desk,
         &mut carry[..],
-        &mut p[..],
-        &mut q[..],
+        first,
+        second,
         &mut room[..],
         &mut costs[..],
     )
+}
+
+pub fn replay(desk: &[u64]) -> bool {
+    let mut p = [0u16; FIRST];
+    let mut q = [0u16; SECOND];
+    memory::quarters(desk, &mut p[..], memory::FIRST, true);
+    memory::quarters(desk, &mut q[..], memory::SECOND, true);
+    add_to(desk, &p[..], &q[..])
 }
