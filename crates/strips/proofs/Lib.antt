@@ -3,3 +3,5 @@ pub mod ShapeLaws
 pub mod RowLaws
 pub mod HeldLaws
 pub mod AddLaws
+pub mod RoomLaws
+pub mod Level
