@@ -5,3 +5,5 @@ pub mod HeldLaws
 pub mod AddLaws
 pub mod RoomLaws
 pub mod Level
+pub mod Frames
+pub mod Cut
