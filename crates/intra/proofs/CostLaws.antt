@@ -16,11 +16,11 @@ use Rattle.answer.specs.Refusal.{refusal, _orElse_}
 use Rattle.answer.proofs.Laws.{or-given, or-later, or-none, or-group, passed, test-given, test-passed}
 use Rattle.answer.specs.declared.Whole.{Whole}
 use Rattle.answer.specs.declared.Whole.the-variants as whole
-use Rattle.plane.specs.Blocks.{blockSide, blocksAcross, blocksDown, blockCount, blockSample, blocksStart, blockRow}
+use Rattle.plane.specs.Blocks.{blockSide, blocksAcross, blocksDown, blockCount, blockSample, blocksStart}
 use Rattle.plane.specs.Needs.{blockStart}
 use Rattle.plane.specs.Planes.{Word, byte, deep, suits, maxSide, wordFault, planeFault, sizesFault, shapesFault, sampleFault, tooLarge}
 use Rattle.plane.specs.declared.Plane.{Plane}
-use Rattle.plane.proofs.BlockLaws.{block-in, block-place, count-most, row-starts}
+use Rattle.plane.proofs.BlockLaws.{block-in, block-place, count-most}
 use Rattle.plane.proofs.PlaneLaws.{Lies, lies, pair, each-alone, row-in}
 use Rattle.plane.proofs.SampleLaws.{suited, by-shapes, shapes-alone, bytes-pass, sample-fault-is}
 use Rattle.satd.specs.Satd.{blockSize, satdOf}
@@ -114,31 +114,26 @@ module _ (flat : ℕ) (p : Plane) (s : List ℕ) (y : ℕ) where
       (λ t. block-place p s y x (t / 8) (t % 8)) in
       rw (row, column, block)
 
-  pub row-done : (start x : ℕ) (old new : List ℕ) → start ≡ blocksStart p y
-      → Wrote (inRun (y * blocksAcross p) x) (costFrom flat s start (p .stride) (y * blocksAcross p)) old new → x ≡ blocksAcross p
+  pub row-done : (x : ℕ) (old new : List ℕ)
+      → Wrote (inRun (y * blocksAcross p) x) (costFrom flat s (blocksStart p y) (p .stride) (y * blocksAcross p)) old new → x ≡ blocksAcross p
       → new ≡ written (inRun (y * blocksAcross p) (blocksAcross p)) (costAt flat p s) old
-  row-done start x old new d w e =
+  row-done x old new w e =
       wrote-all (inRun (y * blocksAcross p)) x (blocksAcross p) w e
-      ∙ rw d
-      (written-value (inRun (y * blocksAcross p) (blocksAcross p)) (costFrom flat s (blocksStart p y) (p .stride) (y * blocksAcross p)) (costAt flat p s) old row-costs)
+      ∙ written-value (inRun (y * blocksAcross p) (blocksAcross p)) (costFrom flat s (blocksStart p y) (p .stride) (y * blocksAcross p)) (costAt flat p s) old row-costs
 
 -- ---- what a row of blocks of a plane that is not refused keeps to
 
-pub record RowIn (p : Plane) (n y start : ℕ) : Type 0 where
+pub record RowIn (p : Plane) (n y : ℕ) : Type 0 where
   pub plane : Lies p n
   pub down : y < blocksDown p
-  pub start-is : start ≡ blocksStart p y
-  pub within : start + p .width ≤ n
+  pub within : blocksStart p y + p .width ≤ n
 
-module _ (p : Plane) (n y start : ℕ) where
-  pub row-lies : planeFault p n ≡ 0 → y < blocksDown p → start ≡ blockRow p n y → RowIn p n y start
-  row-lies e d f =
-      let l = lies p n e in
-      let a : start ≡ blocksStart p y = f ∙ row-starts p n y l d in
-      record { plane = l; down = d; start-is = a; within = omega (arith, row-in p n (y * blockSide) l (omega arith)) }
+module _ (p : Plane) (n y : ℕ) where
+  pub row-lies : planeFault p n ≡ 0 → y < blocksDown p → RowIn p n y
+  row-lies e d = let l = lies p n e in record { plane = l; down = d; within = row-in p n (y * blockSide) l (omega arith) }
 
   -- block x lies within the samples, which a loop may have written
-  pub block-lies : RowIn p n y start → (x : ℕ) → x < blocksAcross p → (now : ℕ) → now ≡ n → SquareIn (start + x * blockSide) (p .stride) now
+  pub block-lies : RowIn p n y → (x : ℕ) → x < blocksAcross p → (now : ℕ) → now ≡ n → SquareIn (blocksStart p y + x * blockSide) (p .stride) now
   block-lies r x h now e = record { rows = λ j j<. omega (arith, e, block-in p n y x j (r .plane) (r .down) h j<) }
 
 -- its costs have their places in a list with room for all

@@ -52,7 +52,7 @@ fn fill_blocks(w: Plane, work: &mut [u8], y: usize, flat: u8)
 {
     let stride = w.stride;
     let across = w.width / BLOCK_SIDE;
-    let start = w.block_row(work.len(), y);
+    let start = w.origin + y * BLOCK_SIDE * stride;
     for x in 0..across {
         fill_block(work, start + x * BLOCK_SIDE, stride, flat);
     }
@@ -115,7 +115,7 @@ fn costs_row(p: Plane, s: &[u8], costs: &mut [u32], y: usize, flat: u8)
 {
     let stride = p.stride;
     let across = p.width / BLOCK_SIDE;
-    let start = p.block_row(s.len(), y);
+    let start = p.origin + y * BLOCK_SIDE * stride;
     let first = y * across;
     for x in 0..across {
         costs[first + x] = block_cost(s, start + x * BLOCK_SIDE, stride, flat);
