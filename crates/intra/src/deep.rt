@@ -9,12 +9,12 @@ ghost use Prim.Native.Nat.{ℕ, _*_, _≤_, _<_};
 ghost use lib.Dec.{ltb};
 ghost use lib.ListN.{length, getD};
 ghost use Rattle.answer.specs.Answer.{wholeAnswer};
-ghost use Rattle.plane.specs.Blocks.{blockSide, blocksAcross, blocksDown, blockCount, blocksStart};
+ghost use Rattle.plane.specs.Blocks.{blockSide, blocksAcross, blocksDown, blockCount};
 ghost use Rattle.plane.specs.Planes.{deep, suits, planeFault};
 ghost use Rattle.satd.specs.Satd.{blockSize};
 ghost use Rattle.sums.specs.Places.{inRun};
 ghost use Rattle.sums.specs.Written.{written};
-ghost use Rattle.intra.specs.Fill.{flatSample, filled, workAfter};
+ghost use Rattle.intra.specs.Fill.{flatSample, workAfter};
 ghost use Rattle.intra.specs.Costs.{costAt, costsAfter, intraFault, intraOf, workOf, costsOf, planeCountOf, planeCostsOf};
 ghost use Rattle.intra.specs.Needs.{SquareIn, squareOf, squareCost};
 
@@ -26,49 +26,29 @@ fn flat_sample(depth: u64) -> u16
     if depth == 10 { 512 } else { 2048 }
 }
 
-// Eight flat samples from the start of a part on.
-fn fill_row(part: &mut [u16], flat: u16)
-    requires { ⌜ blockSide ≤ length (now part) ⌝ }
-    ensures { λ _. ⌜ now (part .exit) ≡ written (λ (k : ℕ). ltb k blockSide) (λ (k : ℕ). flat) (now (part .entry)) ⌝ }
+// The first n samples of a part, filled flat.
+fn fill_row(part: &mut [u16], n: usize, flat: u16)
+    requires { ⌜ n ≤ length (now part) ⌝ }
+    ensures { λ _. ⌜ now (part .exit) ≡ written (λ (k : ℕ). ltb k n) (λ (k : ℕ). flat) (now (part .entry)) ⌝ }
 {
-    for x in 0..BLOCK_SIDE {
+    for x in 0..n {
         part[x] = flat;
     }
 }
 
-// The eight rows of a block that starts at a place of the work plane, each from the block's own column onward:
-// `pred_dc_128`.
-fn fill_block(work: &mut [u16], start: usize, stride: usize, flat: u16)
-    requires { ⌜ SquareIn start stride (length (now work)) ⌝ }
-    ensures { λ _. ⌜ now (work .exit) ≡ filled flat start stride blockSide blockSide (now (work .entry)) ⌝ }
-{
-    for y in 0..BLOCK_SIDE {
-        let i = start + y * stride;
-        fill_row(&mut work[i..], flat);
-    }
-}
-
-// Row y of blocks of a work plane that is not refused.
-fn fill_blocks(w: Plane, work: &mut [u16], y: usize, flat: u16)
-    requires { ⌜ planeFault w (length (now work)) ≡ 0 ⌝ }
-    requires { ⌜ y < blocksDown w ⌝ }
-    ensures { λ _. ⌜ now (work .exit) ≡ filled flat (blocksStart w y) (w .stride) blockSide (blocksAcross w * blockSide) (now (work .entry)) ⌝ }
-{
-    let stride = w.stride;
-    let across = w.width / BLOCK_SIDE;
-    let start = w.origin + y * BLOCK_SIDE * stride;
-    for x in 0..across {
-        fill_block(work, start + x * BLOCK_SIDE, stride, flat);
-    }
-}
-
-// All whole blocks of it.
+// All whole blocks of a work plane that is not refused: `pred_dc_128` of each. What its eight rows have from its own column onward, those
+// of the block beside it go on with, so that a row of samples is filled at once.
 fn fill_work(w: Plane, work: &mut [u16], flat: u16)
     requires { ⌜ planeFault w (length (now work)) ≡ 0 ⌝ }
     ensures { λ _. ⌜ now (work .exit) ≡ workAfter flat w (now (work .entry)) ⌝ }
 {
-    for y in 0..w.height / BLOCK_SIDE {
-        fill_blocks(w, work, y, flat);
+    let stride = w.stride;
+    let origin = w.origin;
+    let rows = (w.height / BLOCK_SIDE) * BLOCK_SIDE;
+    let n = (w.width / BLOCK_SIDE) * BLOCK_SIDE;
+    for y in 0..rows {
+        let i = origin + y * stride;
+        fill_row(&mut work[i..], n, flat);
     }
 }
 
