@@ -9,12 +9,12 @@ ghost use Prim.Native.Nat.{ℕ, _*_, _≤_, _<_};
 ghost use lib.Dec.{ltb};
 ghost use lib.ListN.{length, getD};
 ghost use Rattle.answer.specs.Answer.{wholeAnswer};
-ghost use Rattle.plane.specs.Blocks.{blockSide, blocksAcross, blocksDown, blockCount};
-ghost use Rattle.plane.specs.Planes.{deep, suits, planeFault};
+ghost use Rattle.plane.specs.Blocks.{blockSide, blocksAcross, blocksDown, blockCount, blocksStart};
+ghost use Rattle.plane.specs.Planes.{deep, suits, planeFault, sizesFault};
 ghost use Rattle.satd.specs.Satd.{blockSize};
 ghost use Rattle.sums.specs.Places.{inRun};
 ghost use Rattle.sums.specs.Written.{written};
-ghost use Rattle.intra.specs.Fill.{flatSample, workAfter};
+ghost use Rattle.intra.specs.Fill.{flatSample, filled, workAfter};
 ghost use Rattle.intra.specs.Costs.{costAt, costsAfter, intraFault, intraOf, workOf, costsOf, planeCountOf, planeCostsOf};
 ghost use Rattle.intra.specs.Needs.{SquareIn, squareOf, squareCost};
 
@@ -26,29 +26,25 @@ fn flat_sample(depth: u64) -> u16
     if depth == 10 { 512 } else { 2048 }
 }
 
-// The first n samples of a part, filled flat.
-fn fill_row(part: &mut [u16], n: usize, flat: u16)
-    requires { ⌜ n ≤ length (now part) ⌝ }
-    ensures { λ _. ⌜ now (part .exit) ≡ written (λ (k : ℕ). ltb k n) (λ (k : ℕ). flat) (now (part .entry)) ⌝ }
+// Eight flat samples from the start of a part on.
+fn fill_row(part: &mut [u16], flat: u16)
+    requires { ⌜ blockSide ≤ length (now part) ⌝ }
+    ensures { λ _. ⌜ now (part .exit) ≡ written (λ (k : ℕ). ltb k blockSide) (λ (k : ℕ). flat) (now (part .entry)) ⌝ }
 {
-    for x in 0..n {
+    for x in 0..BLOCK_SIDE {
         part[x] = flat;
     }
 }
 
-// All whole blocks of a work plane that is not refused: `pred_dc_128` of each. What its eight rows have from its own column onward, those
-// of the block beside it go on with, so that a row of samples is filled at once.
-fn fill_work(w: Plane, work: &mut [u16], flat: u16)
-    requires { ⌜ planeFault w (length (now work)) ≡ 0 ⌝ }
-    ensures { λ _. ⌜ now (work .exit) ≡ workAfter flat w (now (work .entry)) ⌝ }
+// The eight rows of a block that starts at a place of the work plane, each from the block's own column onward:
+// `pred_dc_128`.
+fn fill_block(work: &mut [u16], start: usize, stride: usize, flat: u16)
+    requires { ⌜ SquareIn start stride (length (now work)) ⌝ }
+    ensures { λ _. ⌜ now (work .exit) ≡ filled flat start stride blockSide blockSide (now (work .entry)) ⌝ }
 {
-    let stride = w.stride;
-    let origin = w.origin;
-    let rows = (w.height / BLOCK_SIDE) * BLOCK_SIDE;
-    let n = (w.width / BLOCK_SIDE) * BLOCK_SIDE;
-    for y in 0..rows {
-        let i = origin + y * stride;
-        fill_row(&mut work[i..], n, flat);
+    for y in 0..BLOCK_SIDE {
+        let i = start + y * stride;
+        fill_row(&mut work[i..], flat);
     }
 }
 
@@ -76,13 +72,15 @@ fn load_block(block: &mut [u16], s: &[u16], start: usize, stride: usize)
     }
 }
 
-// The SATD of the block that starts at a place against the flat prediction.
+// The SATD of the block that starts at a place against the flat prediction. The samples are lent on as a part: where two loops call
+// this function the compiler keeps it apart, and so it is given their address itself, sees that no local list lies there, and loads
+// the block by its rows and not by single samples.
 fn block_cost(s: &[u16], start: usize, stride: usize, flat: u16) -> u32
     requires { ⌜ SquareIn start stride (length (now s)) ⌝ }
     ensures { λ r. ⌜ r ≡ squareCost flat (now (s .entry)) start stride ⌝ }
 {
     let mut block = [0u16; 64];
-    load_block(&mut block[..], s, start, stride);
+    load_block(&mut block[..], &s[..], start, stride);
     let prediction = [flat; 64];
     let Whole::Number(cost) = satd::deep::satd8x8(&block[..], &prediction[..]) else {
         return 0;
@@ -90,8 +88,48 @@ fn block_cost(s: &[u16], start: usize, stride: usize, flat: u16) -> u32
     cost as u32
 }
 
-// Row y of blocks of a plane that is not refused: each block's cost goes to its place in the list.
-fn costs_row(p: Plane, s: &[u16], costs: &mut [u32], y: usize, flat: u16)
+// Row y of blocks: each block of the work plane is filled, and its cost goes to its place in the list.
+fn costs_row(
+    p: Plane,
+    s: &[u16],
+    w: Plane,
+    work: &mut [u16],
+    costs: &mut [u32],
+    y: usize,
+    flat: u16,
+)
+    requires { ⌜ sizesFault p (length (now s)) w (length (now work)) ≡ 0 ⌝ }
+    requires { ⌜ blockCount p ≤ length (now costs) ⌝ }
+    requires { ⌜ y < blocksDown p ⌝ }
+    ensures { λ _. ⌜ now (work .exit) ≡ filled flat (blocksStart w y) (w .stride) blockSide (blocksAcross w * blockSide) (now (work .entry)) ⌝ }
+    ensures { λ _. ⌜ now (costs .exit) ≡ written (inRun (y * blocksAcross p) (blocksAcross p)) (costAt flat p (now (s .entry))) (now (costs .entry)) ⌝ }
+{
+    let stride = p.stride;
+    let stride2 = w.stride;
+    let across = p.width / BLOCK_SIDE;
+    let start = p.block_row(s.len(), y);
+    let start2 = w.block_row(work.len(), y);
+    let first = y * across;
+    for x in 0..across {
+        fill_block(work, start2 + x * BLOCK_SIDE, stride2, flat);
+        costs[first + x] = block_cost(s, start + x * BLOCK_SIDE, stride, flat);
+    }
+}
+
+// All whole blocks of a plane and a work plane that are not refused.
+fn all_costs(p: Plane, s: &[u16], w: Plane, work: &mut [u16], costs: &mut [u32], flat: u16)
+    requires { ⌜ sizesFault p (length (now s)) w (length (now work)) ≡ 0 ⌝ }
+    requires { ⌜ blockCount p ≤ length (now costs) ⌝ }
+    ensures { λ _. ⌜ now (work .exit) ≡ workAfter flat w (now (work .entry)) ⌝ }
+    ensures { λ _. ⌜ now (costs .exit) ≡ costsAfter flat p (now (s .entry)) (now (costs .entry)) ⌝ }
+{
+    for y in 0..p.height / BLOCK_SIDE {
+        costs_row(p, s, w, work, costs, y, flat);
+    }
+}
+
+// The same without a work plane. Row y of blocks: each block's cost goes to its place in the list.
+fn blocks_row(p: Plane, s: &[u16], costs: &mut [u32], y: usize, flat: u16)
     requires { ⌜ planeFault p (length (now s)) ≡ 0 ⌝ }
     requires { ⌜ blockCount p ≤ length (now costs) ⌝ }
     requires { ⌜ y < blocksDown p ⌝ }
@@ -99,22 +137,21 @@ fn costs_row(p: Plane, s: &[u16], costs: &mut [u32], y: usize, flat: u16)
 {
     let stride = p.stride;
     let across = p.width / BLOCK_SIDE;
-    let start = p.origin + y * BLOCK_SIDE * stride;
+    let start = p.block_row(s.len(), y);
     let first = y * across;
     for x in 0..across {
         costs[first + x] = block_cost(s, start + x * BLOCK_SIDE, stride, flat);
     }
 }
 
-// All whole blocks of it. The samples are lent on as a part: so the compiler hands over their address itself, sees that no local
-// list lies there, and loads a block by its rows and not by single samples.
-fn all_costs(p: Plane, s: &[u16], costs: &mut [u32], flat: u16)
+// All whole blocks of a plane that is not refused.
+fn all_blocks(p: Plane, s: &[u16], costs: &mut [u32], flat: u16)
     requires { ⌜ planeFault p (length (now s)) ≡ 0 ⌝ }
     requires { ⌜ blockCount p ≤ length (now costs) ⌝ }
     ensures { λ _. ⌜ now (costs .exit) ≡ costsAfter flat p (now (s .entry)) (now (costs .entry)) ⌝ }
 {
     for y in 0..p.height / BLOCK_SIDE {
-        costs_row(p, &s[..], costs, y, flat);
+        blocks_row(p, s, costs, y, flat);
     }
 }
 
@@ -151,9 +188,7 @@ pub fn estimate_intra_costs(
     if fault != 0 {
         return Whole::Refused(fault);
     }
-    let flat = flat_sample(depth);
-    fill_work(w, work, flat);
-    all_costs(p, s, costs, flat);
+    all_costs(p, s, w, work, costs, flat_sample(depth));
     Whole::Number(((p.height / BLOCK_SIDE) * (p.width / BLOCK_SIDE)) as u64)
 }
 
@@ -166,6 +201,6 @@ pub fn plane_costs(depth: u64, p: Plane, s: &[u16], costs: &mut [u32]) -> Whole
     if fault != 0 {
         return Whole::Refused(fault);
     }
-    all_costs(p, s, costs, flat_sample(depth));
+    all_blocks(p, s, costs, flat_sample(depth));
     Whole::Number(((p.height / BLOCK_SIDE) * (p.width / BLOCK_SIDE)) as u64)
 }
