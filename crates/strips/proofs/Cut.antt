@@ -16,7 +16,7 @@ use Rattle.importance.specs.Importance.{blocksDifference, importanceTotal}
 use Rattle.intra.specs.Costs.{intraFault, costAt}
 use Rattle.intra.specs.Fill.{flatSample}
 use Rattle.intra.proofs.CostLaws.{fine}
-use Rattle.plane.specs.Blocks.{blockSide, blocksAcross}
+use Rattle.plane.specs.Blocks.{blockSide, blocksAcross, blockCount}
 use Rattle.plane.specs.Planes.{Word, byte, deep, suits, badSide, sampleAt, sizesDiffer, planeFault, depthFault, wordFault, tooLarge, shapesFault, pairFault}
 use Rattle.plane.specs.declared.Plane.{Plane}
 use Rattle.plane.proofs.PlaneLaws.{side-passes}
@@ -32,7 +32,7 @@ use Rattle.strips.specs.Carry.{carryBy, carryNumbers, blocksIn, isCarry,
 use Rattle.strips.specs.Cuts.{Shows, Cut, addsAfter, Accepted, AsWhole, StripsAsWhole}
 use Rattle.strips.specs.Needs.{Sound, Taken, held}
 use Rattle.strips.specs.Rows.{Strip, Held, roomLong, heldRows}
-use Rattle.strips.specs.Strips.{Kept, kept, startOf, startAfter, startFault, stripMost, tooManyRows, stripFault, widthsDiffer, tooLittle, matchFault, shapeFault, addFault, addOf, addAfter, taken, endFault, endOf}
+use Rattle.strips.specs.Strips.{Kept, kept, startOf, startAfter, startFault, stripMost, tooManyRows, stripFault, widthsDiffer, tooLittle, matchFault, shapeFault, addFault, addOf, addAfter, taken, endFault, endOf, totalsOf}
 use Rattle.strips.proofs.AddLaws.{add-known}
 use Rattle.strips.proofs.CarryLaws.{fit-passed, sound}
 use Rattle.strips.proofs.Frames.{planes, samples-below, carryAt, carry-fits}
@@ -149,7 +149,7 @@ module _ (word : Word) (depth : ℕ) (frames : Strip) (before : List ℕ)
         let l = rows-level (s .first .height) (omega arith) in
         let rest : ℕ → ℕ → Kept = λ (d i : ℕ). kept (carryNumbers (carryBy (p .width) (p .height) depth (r + s .first .height) d i)) (last .room) (last .costs) in (
           sym (lent-written _ (taken word (stateAt r room costs) s) (stateAt r room costs) (sym strip-accepted))
-          ∙ ap (λ (d : ℕ). rest d (last .total)) difference-next ∙ ap (rest (at (r + s .first .height) .difference)) (l .total-is),
+              ∙ ap (λ (d : ℕ). rest d (last .total)) difference-next ∙ ap (rest (at (r + s .first .height) .difference)) (l .total-is),
           subst (λ (n : ℕ). Level word depth frames before (r + s .first .height) n (last .room) (last .costs)) (l .total-is) l,
         )
 
@@ -194,6 +194,83 @@ word-depth word depth e = test-passed 5 _ (ap not (one word (suited word depth e
         either true b t = refl
         either false b t = t
 
+module _ (word : Word) (depth : ℕ) (frames : Strip) (w : Plane) (work ns room costs : List ℕ)
+    (good : pairFault word depth (frames .first) (frames .a) (frames .second) (frames .b) ≡ 0)
+    (intra : intraFault word depth (frames .second) (frames .b) w work (length costs) ≡ 0) where
+  abbrev first : Plane
+  first = frames .first
+
+  abbrev second : Plane
+  second = frames .second
+
+  suit : wordFault word depth ≡ 0
+  unfolding pairFault shapesFault
+  suit = or-none (wordFault word depth) _ (or-none (shapesFault word depth first (length (frames .a)) second (length (frames .b))) _ good .0) .0
+
+  abbrev carryOf : ℕ → Carry
+  carryOf = carryAt word depth frames good
+
+  -- the start
+  start-passes : isCarry ns ≡ true → 0 ≡ startFault depth (first .width) (first .height) ns
+  start-passes e =
+      let l = planes word depth frames good .first in
+      let sides : badSide (first .width) || badSide (first .height) ≡ false =
+      rw (side-passes (first .width) (l .some-width) (l .width-most), side-passes (first .height) (l .some-height) (l .height-most)) refl in
+      started depth (first .width) (first .height) ns (eqb-true (length ns) carryLong e) (word-depth word depth suit) sides
+
+  begins : isCarry ns ≡ true → startAfter depth (first .width) (first .height) ns ≡ carryNumbers (carryOf 0)
+  begins e =
+      sym (lent-written _ (carryNumbers (carryBy (first .width) (first .height) depth 0 0 0)) ns (start-passes e))
+      ∙ ap (λ (d : ℕ). carryNumbers (carryBy (first .width) (first .height) depth 0 d 0)) (sum-none (rowSad first (frames .a) second (frames .b)))
+      ∙ ap (λ (i : ℕ). carryNumbers (carryBy (first .width) (first .height) depth 0 (carryOf 0 .difference) i)) (sum-none (blocksDifference first (frames .a) second (frames .b)))
+
+  level-none : 2 * blockSide * first .width ≤ length room → Level word depth frames costs 0 (carryOf 0 .importance) room costs
+  level-none h = record {
+    enough = h;
+    total-is = refl;
+    first = λ i x i< x<. absurd (omega arith);
+    second = λ i x i< x<. absurd (omega arith);
+    costs-are = written-none _ (costAt (flatSample depth) second (frames .b)) costs (fronts-none (blocksAcross first));
+  }
+
+  -- the end
+  end-passes : 0 ≡ endFault (carryNumbers (carryOf (first .height)))
+  end-passes =
+      let fits = carry-fits word depth frames good (first .height) (omega arith) in
+      ended (carryNumbers (carryOf (first .height))) (fit-passed (carryNumbers (carryOf (first .height))) refl fits) (word-depth word depth suit) (omega arith)
+
+  blocks-same : blockCount second ≡ blocksIn (carryOf 0)
+  blocks-same =
+      let l = planes word depth frames good in
+      ap (λ (n : ℕ). n / blockSide * (second .width / blockSide)) (sym (l .heights)) ∙ ap (λ (n : ℕ). first .height / blockSide * (n / blockSide)) (sym (l .widths))
+
+  as-whole : (last : Kept) (room′ costs′ : List ℕ) → last ≡ kept (carryNumbers (carryOf (first .height))) room′ costs′
+      → Level word depth frames costs (first .height) (carryOf (first .height) .importance) room′ costs′
+      → AsWhole word depth frames w work costs last (totalsOf (carryOf (first .height)))
+  unfolding planeSad importanceTotal
+  as-whole last room′ costs′ e l = record {
+    given = ap (λ (k : Kept). endOf (k .carry)) e ∙ sym (answer-given _ _ _ end-passes refl);
+    difference = sym (answer-given _ _ _ (sym good) refl);
+    importance = sym (answer-given _ _ _ (sym good) refl);
+    blocks = sym (answer-given _ _ _ (sym intra) (sym blocks-same));
+    costs-are = ap (λ (k : Kept). k .costs) e ∙ l .costs-are
+        ∙ ap (λ (n : ℕ). written (λ (k : ℕ). ltb k n) (costAt (flatSample depth) second (frames .b)) costs) (sym blocks-same)
+        ∙ lent-written _ _ _ (sym intra);
+  }
+
 pub strips-as-whole : StripsAsWhole
-unfolding pairFault shapesFault
-strips-as-whole word depth frames w work strips ns room costs good intra carry enough cut = ?
+strips-as-whole word depth frames w work strips ns room costs good intra carry enough cut =
+    let first = frames .first in
+    let suits = suit word depth frames w work ns room costs good intra in
+    let list : blocksIn (carryAt word depth frames good 0) ≤ length costs =
+    omega (arith, blocks-same word depth frames w work ns room costs good intra, fine word depth (frames .second) (frames .b) w work (length costs) intra .1) in
+    let all = all-strips word depth frames costs good suits 0 room costs (level-none word depth frames w work ns room costs good intra enough) list strips cut in
+    let begun = begins word depth frames w work ns room costs good intra carry in (
+      sym (answer-given _ _ _ (start-passes word depth frames w work ns room costs good intra carry) refl),
+      rw begun (all .0),
+      (
+        totalsOf (carryAt word depth frames good (first .height)),
+        as-whole word depth frames w work ns room costs good intra _ (all .1 .0) (all .1 .1)
+            (ap (λ (l : List ℕ). addsAfter word (kept l room costs) strips) begun ∙ all .1 .2) (all .1 .3),
+      ),
+    )
