@@ -7,3 +7,4 @@ pub mod RoomLaws
 pub mod Level
 pub mod Frames
 pub mod Cut
+pub mod Unique
