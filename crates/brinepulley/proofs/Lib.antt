@@ -4,3 +4,4 @@ pub mod Unique
 pub mod Histories
 pub mod Contracts
 pub mod DeepUnique
+pub mod SensorUnique
