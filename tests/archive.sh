@@ -15,8 +15,8 @@ grep -oE '\bbrine_[a-z0-9_]+ *\(' "$header" | tr -d ' (' | sort -u > "$room/decl
 "$NM" -g --defined-only "$ARCHIVE" 2> /dev/null | awk 'NF == 3 { print $3 }' | sort -u > "$room/shown"
 diff "$room/declared" "$room/shown" > "$room/log" 2>&1
 verdict "it shows the header's names alone" $?
-[ "$(wc -l < "$room/shown")" -ge 23 ]
-verdict "it shows all twenty-three" $?
+[ "$(wc -l < "$room/shown")" -ge 27 ]
+verdict "it shows all twenty-seven" $?
 
 # It is for TARGET. No product and sum are one operation, which would round once where the rules round twice.
 case $TARGET in
