@@ -71,6 +71,15 @@ for bytes in 3 6 7 200 $((frame / 2)) $((frame - 1)) $frame; do
 done
 head -c "$head" "$strips" > "$room/broken.y4m"
 same "strips, a film without a frame" 5 "$room/broken.y4m"
+plain=$COMMAND COMMAND=$WATCHED WATCH_BROKEN=$strips
+for WATCH_BYTES in 0 $head $((head + 7 * frame + 3)) $((head + 7 * frame + 2000)); do
+    export WATCH_BROKEN WATCH_BYTES
+    same "strips, a film that cannot be read behind $WATCH_BYTES bytes" 5,64 "$strips"
+    grep -q 'Input/output error' "$room/err"
+    verdict "strips, the fault is told" $?
+done
+unset WATCH_BROKEN WATCH_BYTES
+COMMAND=$plain
 for words in 'W9 H0 Cmono' 'W8193 H9 Cmono' 'W9 H9 C420p14' 'W9 Cmono'; do
     film header "$words" FRAME 50 50 > "$room/broken.y4m"
     same "strips, a film of $words" 5 "$room/broken.y4m"
