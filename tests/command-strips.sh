@@ -110,16 +110,21 @@ same "strips, a sample that is too large below the last whole square" 1,64 "$roo
 grep -q 'its sample (242, 240) is 4096' "$room/err"
 verdict "strips, that sample is named" $?
 
-# One frame is kept, and no second one: 16 MB of samples go into 40 MB, where whole frames want four times as much.
+# One frame is kept, and no second one: frames of 16 MB are decided on in 40 MB, where whole frames want four times 16.
+within() { # ARGUMENTS..
+    # shellcheck disable=SC3045 # dash and bash have it
+    (ulimit -v 40000 && exec "$COMMAND" decide "$strips" --csv --mode standard --inter "$room/few.costs" "$@") > "$room/out" 2> "$room/err"
+    status=$?
+}
 if [ -z "$RUN" ]; then
     echo 5 > "$room/few.costs"
     film y4m 4096 4096 mono 50 90 > "$strips"
-    $COMMAND decide "$strips" --csv --mode standard --inter "$room/few.costs" > "$room/want" 2> /dev/null
-    (ulimit -v 40000 && exec $COMMAND decide "$strips" --csv --mode standard --inter "$room/few.costs" --strips 64) > "$room/out" 2> /dev/null
-    [ $? = 0 ] && [ -s "$room/want" ] && cmp -s "$room/want" "$room/out"
+    "$COMMAND" decide "$strips" --csv --mode standard --inter "$room/few.costs" > "$room/want" 2> /dev/null
+    within --strips 64
+    [ "$status" = 0 ] && [ -s "$room/want" ] && cmp -s "$room/want" "$room/out"
     verdict "strips, in the memory of two frames" $?
-    (ulimit -v 40000 && exec $COMMAND decide "$strips" --csv --mode standard --inter "$room/few.costs") > "$room/out" 2> "$room/err"
-    [ $? = 2 ] && grep -q 'not enough memory for its frames' "$room/err"
+    within
+    [ "$status" = 2 ] && grep -q 'not enough memory for its frames' "$room/err"
     verdict "whole frames, in the same memory" $?
     rm -f "$strips"
 fi
