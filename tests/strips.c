@@ -184,7 +184,17 @@ static void by_hand(void)
     EXPECT_NUMBER((int64_t)total, 31);
 }
 
-/* Frames of flat samples: the same strip is lent again and again. The sums need more than 32 bits. */
+/* The last eight rows once more, with totals by hand: the largest that there may be, which need more than 32 bits. */
+static void largest_totals(uint32_t depth, uint64_t *carry, struct strip a, struct strip b, void *room, uint32_t *costs, size_t blocks)
+{
+    const uint64_t white = (1u << depth) - 1, most = (carry[CARRY_ROWS] -= 8) * a.width * white;
+    carry[CARRY_DIFFERENCE] = carry[CARRY_TOTAL] = most;
+    EXPECT_NUMBER(add_strips(depth, carry, BRINE_CARRY, a, b, room, 16 * a.width, costs, blocks), (int64_t)carry[CARRY_HEIGHT]);
+    EXPECT_NUMBER((int64_t)carry[CARRY_DIFFERENCE], (int64_t)(most + 8 * a.width * white));
+    EXPECT_NUMBER((int64_t)carry[CARRY_TOTAL], (int64_t)(most + a.width / 8 * white));
+}
+
+/* Frames of flat samples: the same strip is lent again and again. */
 static void flat_frames(uint32_t depth, size_t width, size_t height)
 {
     const size_t count = 64 * width, blocks = (width / 8) * (height / 8);
@@ -206,6 +216,8 @@ static void flat_frames(uint32_t depth, size_t width, size_t height)
         EXPECT_NUMBER((int64_t)total, (int64_t)(blocks * white));
         for (size_t i = 0; i < blocks; i += blocks - 1)
             EXPECT_NUMBER(costs[i], (white / 2) * 8);
+        const struct strip a = {black, count, width, 8, width, 0}, b = {bright, count, width, 8, width, 0};
+        largest_totals(depth, carry, a, b, room, costs, blocks);
     }
     free(black);
     free(bright);
