@@ -27,9 +27,9 @@ static bool make_room(struct gauge *gauge)
         && plane_make(&gauge->work, width, height, film->depth);
 }
 
-/* Fetches a frame into `now`, reduced; *ended where there is none. By strips it is measured at once. A frame of two bytes a sample is reduced by a factor of 1 too,
+/* Fetches a frame into `now`, reduced; *ended where there is none. A frame of two bytes a sample is reduced by a factor of 1 too,
    which copies it: so the library looks at its samples as soon as it is there, in every mode, and it is known which frame is at
-   fault. */
+   fault. By strips a frame is measured as it comes, and is never whole. */
 static enum status fetch(struct gauge *gauge, bool *ended)
 {
     struct film *film = gauge->film;

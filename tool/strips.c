@@ -26,7 +26,7 @@ bool strips_make(struct strips *s, struct film *film, size_t factor, size_t rows
     s->blocks = calloc(s->block_count + 1, sizeof *s->blocks);
     return s->blocks != NULL && plane_make(&s->full, film->width, (s->rows + 1) * factor - 1, film->depth)
         && plane_make(&s->now, width, s->rows, film->depth) && plane_make(&s->kept, width, height, film->depth)
-        && plane_make(&s->room, width, 16, film->depth);
+        && plane_make(&s->room, width, ROOM_ROWS, film->depth);
 }
 
 /* The strip that was read, reduced, is measured against the rows that it takes the place of. A factor of 1 copies it: so the library

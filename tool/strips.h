@@ -6,15 +6,17 @@
 #include "brinepulley.h"
 #include "film.h"
 
-/* The most rows of a strip. */
-enum { LARGEST_STRIP = 64 };
+enum {
+    LARGEST_STRIP = 64, /* rows of a strip that the library takes */
+    ROOM_ROWS = 16      /* eight of each frame */
+};
 
 struct strips {
     struct film *film;
-    size_t factor;   /* by which frames are reduced */
-    size_t rows;     /* of a strip, reduced */
-    bool measured;   /* whether frames are measured at all */
-    bool begun;      /* whether there is a frame before */
+    size_t factor;     /* by which frames are reduced */
+    size_t rows;       /* of a strip, reduced */
+    bool measured;     /* whether frames are measured at all */
+    bool begun;        /* whether there is a frame before */
     struct plane full; /* a strip as the film has it, .. */
     struct plane now;  /* .. and reduced */
     struct plane kept; /* the frame before, reduced; from its first row on it becomes the new one */
