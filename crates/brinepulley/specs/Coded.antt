@@ -8,6 +8,7 @@ use Rattle.answer.specs.Answer.{Answer, gives, refused, answered}
 use Rattle.plane.specs.declared.Plane.{Plane}
 use Rattle.score.specs.declared.ScenecutResult.{ScenecutResult}
 use Rattle.detector.specs.Step.{Verdict}
+use Rattle.strips.specs.declared.Totals.{Totals}
 
 abbrev pub coded : Answer ℕ → ℤ
 coded (gives n) = pos n
@@ -26,6 +27,19 @@ status (refused f) = refused f
 abbrev pub heldAfter : Answer Float → Float → Float
 heldAfter (gives x) old = x
 heldAfter (refused f) old = old
+
+-- the end of strips counts the blocks, and its two totals go to lent places
+abbrev pub blocksGiven : Answer Totals → Answer ℕ
+blocksGiven (gives t) = gives (t .blocks)
+blocksGiven (refused f) = refused f
+
+abbrev pub differenceAfter : Answer Totals → ℕ → ℕ
+differenceAfter (gives t) old = t .difference
+differenceAfter (refused f) old = old
+
+abbrev pub importanceAfter : Answer Totals → ℕ → ℕ
+importanceAfter (gives t) old = t .importance
+importanceAfter (refused f) old = old
 
 -- a decision: "0 no cut and no score, 1 a cut without a score, 2 no cut with a score, 3 a cut with a score"
 abbrev decision : Bool → Option ScenecutResult → ℕ

@@ -20,6 +20,7 @@ pub mod card;
 mod code;
 pub mod deep;
 pub mod frames;
+pub mod sensor;
 
 // The factor that Fast mode scales a frame by, 1 for none.
 #[no_mangle]

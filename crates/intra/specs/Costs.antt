@@ -6,7 +6,7 @@ use lib.ListN.{length, replicate}
 use Rattle.answer.specs.Answer.{Answer, answered, lentAfter}
 use Rattle.answer.specs.Refusal.{refusal, _orElse_}
 use Rattle.plane.specs.Blocks.{blockSide, blocksAcross, blockCount, blockSample}
-use Rattle.plane.specs.Planes.{Word, shapesFault, tooLarge}
+use Rattle.plane.specs.Planes.{Word, wordFault, planeFault, shapesFault, tooLarge}
 use Rattle.plane.specs.declared.Plane.{Plane}
 use Rattle.satd.specs.Satd.{blockSize, satdValue}
 use Rattle.sums.specs.Table.{table}
@@ -50,3 +50,17 @@ workOf word depth p s w work costs = lentAfter (intraFault word depth p s w work
 
 abbrev pub costsOf : Word → ℕ → Plane → List ℕ → Plane → List ℕ → List ℕ → List ℕ
 costsOf word depth p s w work costs = lentAfter (intraFault word depth p s w work (length costs)) (costsAfter (flatSample depth) p s costs) costs
+
+-- ---- the costs alone, without a work plane
+
+-- 5, the plane's 1 and 2, 4, and 16
+unfoldable pub costsFault : Word → ℕ → Plane → List ℕ → ℕ → ℕ
+costsFault word depth p s room =
+    wordFault word depth orElse planeFault p (length s) orElse refusal 4 (ltb room (blockCount p)) orElse refusal 16 (tooLarge depth p s)
+
+-- the answer and the lent list, as above
+abbrev pub planeCountOf : Word → ℕ → Plane → List ℕ → List ℕ → Answer ℕ
+planeCountOf word depth p s costs = answered (costsFault word depth p s (length costs)) (blockCount p)
+
+abbrev pub planeCostsOf : Word → ℕ → Plane → List ℕ → List ℕ → List ℕ
+planeCostsOf word depth p s costs = lentAfter (costsFault word depth p s (length costs)) (costsAfter (flatSample depth) p s costs) costs

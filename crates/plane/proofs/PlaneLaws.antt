@@ -4,13 +4,14 @@ use mathlib.Core.Bool.{Bool, true, false, not, _||_}
 use mathlib.Core.List.{List}
 use Prim.Native.Nat.{ℕ, _+_, _-_, _*_, _/_, _≤_, _<_, _^_}
 use native.Mathlib.Nat.{pos-of-ne-zero, mul-le-mul, mul-le-mul-right, div-lt-iff-lt-mul, le-div-iff-mul-le}
+use native.Mathlib.Decide.{ℕ-discrete}
 use native.Mathlib.Omega.{arith}
 use lib.Dec.{ltb, leb, eqb}
 use lib.ListN.{length, getD, take, drop, length-take, length-drop}
 use lib.Seq.{getD-take, getD-drop}
-use borrow.Author.Tests.{lt-ltb, le-ltb, le-leb, lt-leb, ltb-false, leb-true, leb-false, eqb-true, eqb-false, not-false}
+use borrow.Author.Tests.{lt-ltb, le-ltb, le-leb, lt-leb, ltb-false, leb-true, leb-false, eqb-true, eqb-false, eq-eqb, ne-eqb, not-false}
 use Rattle.answer.specs.Refusal.{refusal, _orElse_}
-use Rattle.answer.proofs.Laws.{or-no, or-none, passed, test-given, test-first, test-passed, test-later}
+use Rattle.answer.proofs.Laws.{or-no, or-none, or-both, or-given, passed, test-given, test-first, test-passed, test-later}
 use Rattle.plane.specs.declared.Plane.{Plane}
 use Rattle.plane.specs.Planes.{sampleAt, rowEnd, rowOf, maxSide, badSide, badPlane, pastSamples, sizesDiffer, planeFault, sizesFault}
 
@@ -93,6 +94,18 @@ lies p n e =
       within = ltb-false n (rowEnd p (p .height - 1)) (passed 1 (ltb n (rowEnd p (p .height - 1))) (t .1));
     }
 
+-- and the way back: a plane that keeps to this is not refused
+pub side-passes : (n : ℕ) → 0 < n → n ≤ maxSide → badSide n ≡ false
+unfolding badSide
+side-passes n some most = rw (ne-eqb n 0 (λ z. omega arith), le-ltb maxSide n most) refl
+
+pub not-refused : (p : Plane) (n : ℕ) → Lies p n → planeFault p n ≡ 0
+unfolding badPlane
+not-refused p n l =
+    let sides : badPlane p ≡ false =
+    rw (side-passes (p .width) (l .some-width) (l .width-most), side-passes (p .height) (l .some-height) (l .height-most), le-ltb (p .stride) (p .width) (l .strides)) refl in
+    sym (fault-none p n sides (le-leb (rowEnd p (p .height - 1)) n (l .within)))
+
 -- ---- its rows
 
 le-sub-one : (y h : ℕ) → y < h → y ≤ h - 1
@@ -133,6 +146,23 @@ pair p n q m e =
       widths = eqb-true _ _ (not-false _ (d .0));
       heights = eqb-true _ _ (not-false _ (d .1));
     }
+
+-- neither is refused alone
+pub each-alone : (p : Plane) (n : ℕ) (q : Plane) (m : ℕ) → sizesFault p n q m ≡ 0 → (planeFault p n ≡ 0) × (planeFault q m ≡ 0)
+unfolding sizesFault
+each-alone p n q m e = let f = or-none (planeFault p n) _ e in (f .0, or-none (planeFault q m) _ (f .1) .0)
+
+-- and a plane beside itself is refused as it is alone
+pub sizes-alone : (p : Plane) (n : ℕ) → sizesFault p n p n ≡ planeFault p n
+unfolding sizesFault sizesDiffer
+sizes-alone p n = go (ℕ-discrete (planeFault p n) 0)
+  where
+    same : sizesDiffer p p ≡ false
+    same = rw (eq-eqb (p .width) (p .width) refl, eq-eqb (p .height) (p .height) refl)
+
+    go : Dec (planeFault p n ≡ 0) → sizesFault p n p n ≡ planeFault p n
+    go (yes e) = or-both _ _ e (or-both _ _ e (sym (test-passed 3 _ same))) ∙ sym e
+    go (no h) = sym (or-given _ _ _ refl h)
 
 -- a plane's total, at samples of 8 bits as of 16: any integer of 64 bits holds it, a signed one too
 pub total-fits : (n w k : ℕ) → n ≤ maxSide → w ≤ maxSide → k < 2 ^ 16 → n * (w * k) < 2 ^ 42

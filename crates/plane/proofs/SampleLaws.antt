@@ -22,7 +22,7 @@ use Rattle.sums.specs.Needs.{byteMost}
 use Rattle.sums.proofs.AnyLaws.{any-zero, any-more, any-none, any-ext, any-below, any-at}
 use Rattle.plane.specs.declared.Plane.{Plane}
 use Rattle.plane.specs.Planes.{Word, byte, deep, suits, sampleAt, rowOf, rowLarge, rowsLarge, wordFault, planeFault, sizesFault, tooLarge, sampleFault, shapesFault, pairFault}
-use Rattle.plane.proofs.PlaneLaws.{Lies, length-row, row-at}
+use Rattle.plane.proofs.PlaneLaws.{Lies, length-row, row-at, sizes-alone}
 
 -- ---- the bits that numbers have together
 
@@ -137,6 +137,11 @@ module _ (word : Word) (depth : ℕ) where
   pub by-shapes : (p : Plane) (n : ℕ) (q : Plane) (m : ℕ) → shapesFault word depth p n q m ≡ 0 → (wordFault word depth ≡ 0) × (sizesFault p n q m ≡ 0)
   unfolding shapesFault
   by-shapes p n q m e = or-none (wordFault word depth) (sizesFault p n q m) e
+
+  -- a plane beside itself is refused as it is alone
+  pub shapes-alone : (p : Plane) (n : ℕ) → shapesFault word depth p n p n ≡ wordFault word depth orElse planeFault p n
+  unfolding shapesFault
+  shapes-alone p n = ap (λ (f : ℕ). wordFault word depth orElse f) (sizes-alone p n)
 
   module _ (p : Plane) (a : List ℕ) (q : Plane) (b : List ℕ) where
     by-pair : pairFault word depth p a q b ≡ 0

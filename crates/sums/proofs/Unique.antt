@@ -1,8 +1,14 @@
--- Each contract of this crate allows one result alone. Assumes nothing.
+-- Each contract of this crate allows one outcome alone: of a copy the lent list. Assumes nothing.
+use mathlib.Core.List.{List}
 use mathlib.Core.Path.{sym, _∙_}
 use Prim.Native.Nat.{ℕ}
+use denote.Ref.{now}
 use lib.Ieee.{Float}
 use Rattle.answer.specs.Unique.{OneOutcome}
+use Rattle.sums.proofs.copy.Kinds as copy-kinds
+use Rattle.sums.proofs.copy.Reads as copy-reads
+use Rattle.sums.proofs.deep.copy.Kinds as deep-copy-kinds
+use Rattle.sums.proofs.deep.copy.Reads as deep-copy-reads
 use Rattle.sums.proofs.distance.Kinds as distance-kinds
 use Rattle.sums.proofs.distance.Reads as distance-reads
 use Rattle.sums.proofs.deep.distance.Kinds as deep-distance-kinds
@@ -23,3 +29,9 @@ quotient-unique κs a r r′ e e′ p q = p ∙ sym q
 
 pub lesser-unique : OneOutcome 0 lesser-kinds.ps lesser-kinds.r ℕ (λ κs r e. r) lesser-reads.Post
 lesser-unique κs a r r′ e e′ p q = p ∙ sym q
+
+pub copy-unique : OneOutcome 2 copy-kinds.ps copy-kinds.r (List ℕ) (λ κs r e. now (e .0)) copy-reads.Post
+copy-unique κs a r r′ e e′ p q = p ∙ sym q
+
+pub deep-copy-unique : OneOutcome 2 deep-copy-kinds.ps deep-copy-kinds.r (List ℕ) (λ κs r e. now (e .0)) deep-copy-reads.Post
+deep-copy-unique κs a r r′ e e′ p q = p ∙ sym q

@@ -4,7 +4,7 @@
 use mathlib.Core.Bool.{Bool, false, cond, _||_}
 use mathlib.Core.List.{List, [], _++_, append-nil}
 use mathlib.Core.Path.{_≡_, ap, subst, _∙_}
-use Prim.Native.Nat.{ℕ, _+_, _-_, _≤_, _<_}
+use Prim.Native.Nat.{ℕ, _+_, _-_, _≤_, _<_, min}
 use native.Mathlib.Decide.{decLt}
 use native.Mathlib.Omega.{arith}
 use borrow.Author.Tests.{le-leb, lt-leb, lt-ltb, le-ltb}
@@ -12,7 +12,7 @@ use borrow.Rule.Slice.PartMut.{putMid}
 use lib.Dec.{ltb, eqb}
 use lib.ListN.{length, getD, set, take, drop, length-append, length-drop, List·getD-append, drop-of-length-le}
 use lib.Seq.{take-all, getD-append-add, getD-take, getD-drop, length-take-le}
-use Rattle.sums.specs.Written.{written}
+use Rattle.sums.specs.Written.{written, copied}
 use Rattle.sums.proofs.WrittenLaws.{length-written, written-at, is-written, written-none, written-ext, written-again, written-more, prefix-none, prefix-more}
 use Rattle.sums.specs.Places.{inRun}
 
@@ -114,3 +114,18 @@ front-more {g} {s} {l} {i} w v h e = wrote (λ (k : ℕ). ltb k (i + 1)) g s (se
 -- what is not written yet is as it was
 pub front-old : {g : ℕ → ℕ} {s l : List ℕ} {i : ℕ} → Wrote (λ (k : ℕ). ltb k i) g s l → (k : ℕ) → i ≤ k → k < length s → getD l k 0 ≡ getD s k 0
 front-old {g} {s} {l} {i} w k h k< = rw (w .is) (written-at (λ (k : ℕ). ltb k i) g s k k< ∙ rw (le-ltb k i h))
+
+-- ---- a copy: the n places that two lists both have
+module _ (from to : List ℕ) (n : ℕ) (e : n ≡ min (length to) (length from)) where
+  -- a place of the second list is one of these where the first has it
+  both-have : (k : ℕ) → k < length to → Dec (k < n) → ltb k n ≡ ltb k (length from)
+  both-have k h (yes l) = rw (lt-ltb k n l, lt-ltb k (length from) (omega (arith, e)))
+  both-have k h (no m) = rw (le-ltb k n (omega arith), le-ltb k (length from) (omega (arith, e)))
+
+  -- the end of the loop
+  pub copy-done : (k : ℕ) (l : List ℕ) → Wrote (λ (i : ℕ). ltb i k) (λ (i : ℕ). getD from i 0) to l → k ≡ n → l ≡ copied from to
+  copy-done k l w d =
+      let g : ℕ → ℕ = λ (i : ℕ). getD from i 0 in
+      wrote-all (λ (m i : ℕ). ltb i m) k n w d
+      ∙ is-written (λ (i : ℕ). ltb i (length from)) g to (written (λ (i : ℕ). ltb i n) g to) (length-written (λ (i : ℕ). ltb i n) g to)
+      (λ i h. written-at (λ (i : ℕ). ltb i n) g to i h ∙ ap (λ (b : Bool). cond b (g i) (getD to i 0)) (both-have i h (decLt i n)))

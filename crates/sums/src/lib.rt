@@ -1,8 +1,9 @@
-// Small numbers that the crates above are made of: how far two samples lie apart, a total over a count, the lesser of two.
+// Small things that the crates above are made of: how far two samples lie apart, a total over a count, the lesser of two, a copy.
 ghost use mathlib.Core.Path.{_≡_};
 ghost use Prim.Native.Nat.{min};
 ghost use Rattle.sums.specs.Sums.{apart};
 ghost use Rattle.sums.specs.Quotient.{quotientOf};
+ghost use Rattle.sums.specs.Written.{copied};
 
 pub mod deep;
 
@@ -27,4 +28,14 @@ pub fn lesser(a: usize, b: usize) -> usize
     ensures { λ r. ⌜ r ≡ min a b ⌝ }
 {
     if a <= b { a } else { b }
+}
+
+// The places of one list at the start of another, as far as both go. What lies behind them stays.
+pub fn copy(to: &mut [u8], from: &[u8])
+    ensures { λ _. ⌜ now (to .exit) ≡ copied (now (from .entry)) (now (to .entry)) ⌝ }
+{
+    let n = lesser(to.len(), from.len());
+    for k in 0..n {
+        to[k] = from[k];
+    }
 }

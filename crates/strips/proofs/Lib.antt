@@ -1,0 +1,5 @@
+pub mod CarryLaws
+pub mod ShapeLaws
+pub mod RowLaws
+pub mod HeldLaws
+pub mod AddLaws

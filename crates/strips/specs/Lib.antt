@@ -1,0 +1,5 @@
+pub mod Carry
+pub mod Rows
+pub mod Strips
+pub mod Cuts
+pub mod Needs

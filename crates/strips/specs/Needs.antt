@@ -1,0 +1,32 @@
+-- What only private contracts cite: what a strip keeps to that is not refused by its shape.
+use mathlib.Core.Path.{_≡_}
+use mathlib.Core.List.{List}
+use Prim.Native.Nat.{ℕ, _+_, _≤_, _<_}
+use Rattle.plane.specs.Planes.{Word, wordFault, sizesFault, maxSide}
+use Rattle.plane.specs.declared.Plane.{Plane}
+use Rattle.strips.specs.declared.carry.Carry.{Carry}
+use Rattle.strips.specs.Carry.{totalsMost, blocksIn}
+use Rattle.strips.specs.Rows.{Held, roomLong}
+
+-- a carry that is not unfit, at a depth that suits the word
+pub record Sound (word : Word) (c : Carry) : Type 0 where
+  pub depth-fits : wordFault word (c .depth) ≡ 0
+  pub width-some : 0 < c .width
+  pub width-most : c .width ≤ maxSide
+  pub height-most : c .height ≤ maxSide
+  pub come : c .rows ≤ c .height
+  pub difference : c .difference ≤ totalsMost c
+  pub importance : c .importance ≤ totalsMost c
+
+-- strips over n and m samples, with so many places of room and of costs
+pub record Taken (word : Word) (c : Carry) (p : Plane) (n : ℕ) (q : Plane) (m room costs : ℕ) : Type 0 where
+  pub carry : Sound word c
+  pub rows : c .rows + p .height ≤ c .height
+  pub heights : p .height ≡ q .height
+  pub width : p .width ≡ c .width
+  pub sizes : 0 < p .height → sizesFault p n q m ≡ 0
+  pub list : blocksIn c ≤ costs
+  pub enough : roomLong c ≤ room
+
+abbrev pub held : ℕ → List ℕ → List ℕ → Held
+held total room costs = record { total = total; room = room; costs = costs }
