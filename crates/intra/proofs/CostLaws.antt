@@ -21,7 +21,7 @@ use Rattle.plane.specs.Needs.{blockStart}
 use Rattle.plane.specs.Planes.{Word, byte, deep, suits, maxSide, wordFault, planeFault, sizesFault, shapesFault, sampleFault, tooLarge}
 use Rattle.plane.specs.declared.Plane.{Plane}
 use Rattle.plane.proofs.BlockLaws.{block-in, block-place, count-most, row-starts}
-use Rattle.plane.proofs.PlaneLaws.{Lies, lies, pair, each-alone, row-in}
+use Rattle.plane.proofs.PlaneLaws.{Pair, pair, row-in}
 use Rattle.plane.proofs.SampleLaws.{suited, by-shapes, shapes-alone, bytes-pass, sample-fault-is}
 use Rattle.satd.specs.Satd.{blockSize, satdOf}
 use Rattle.satd.proofs.SatdLaws.{satd-given, satd-most}
@@ -122,28 +122,43 @@ module _ (flat : ℕ) (p : Plane) (s : List ℕ) (y : ℕ) where
       ∙ rw d
       (written-value (inRun (y * blocksAcross p) (blocksAcross p)) (costFrom flat s (blocksStart p y) (p .stride) (y * blocksAcross p)) (costAt flat p s) old row-costs)
 
--- ---- what a row of blocks of a plane that is not refused keeps to
+-- ---- what a row of blocks of two planes that are not refused keeps to
 
-pub record RowIn (p : Plane) (n y start : ℕ) : Type 0 where
-  pub plane : Lies p n
+pub record RowIn (p : Plane) (n : ℕ) (w : Plane) (m room y start start2 : ℕ) : Type 0 where
+  pub planes : Pair p n w m
   pub down : y < blocksDown p
   pub start-is : start ≡ blocksStart p y
-  pub within : start + p .width ≤ n
+  pub start2-is : start2 ≡ blocksStart w y
+  pub first : start + p .width ≤ n
+  pub second : start2 + w .width ≤ m
+  pub costs : y * blocksAcross p + blocksAcross p ≤ room
 
-module _ (p : Plane) (n y start : ℕ) where
-  pub row-lies : planeFault p n ≡ 0 → y < blocksDown p → start ≡ blockRow p n y → RowIn p n y start
-  row-lies e d f =
-      let l = lies p n e in
-      let a : start ≡ blocksStart p y = f ∙ row-starts p n y l d in
-      record { plane = l; down = d; start-is = a; within = omega (arith, row-in p n (y * blockSide) l (omega arith)) }
+module _ (p : Plane) (n : ℕ) (w : Plane) (m room y start start2 : ℕ) where
+  pub row-lies : sizesFault p n w m ≡ 0 → blockCount p ≤ room → y < blocksDown p → start ≡ blockRow p n y → start2 ≡ blockRow w m y → RowIn p n w m room y start start2
+  row-lies e r d f g =
+      let h = pair p n w m e in
+      let a : start ≡ blocksStart p y = f ∙ row-starts p n y (h .first) d in
+      let b : start2 ≡ blocksStart w y = g ∙ row-starts w m y (h .second) (omega arith) in
+      record {
+        planes = h;
+        down = d;
+        start-is = a;
+        start2-is = b;
+        first = omega (arith, row-in p n (y * blockSide) (h .first) (omega arith));
+        second = omega (arith, row-in w m (y * blockSide) (h .second) (omega arith));
+        costs = omega (arith, mul-le-mul-right (blocksAcross p) d, suc-mul y (blocksAcross p));
+      }
 
-  -- block x lies within the samples, which a loop may have written
-  pub block-lies : RowIn p n y start → (x : ℕ) → x < blocksAcross p → (now : ℕ) → now ≡ n → SquareIn (start + x * blockSide) (p .stride) now
-  block-lies r x h now e = record { rows = λ j j<. omega (arith, e, block-in p n y x j (r .plane) (r .down) h j<) }
+  -- block x lies within the samples of both; those of the work plane a loop has written
+  module _ (r : RowIn p n w m room y start start2) (x : ℕ) (h : x < blocksAcross p) where
+    pub block-lies : SquareIn (start + x * blockSide) (p .stride) n
+    block-lies = record { rows = λ j j<. omega (arith, block-in p n y x j (r .planes .first) (r .down) h j<) }
 
--- its costs have their places in a list with room for all
-pub costs-lie : (p : Plane) (room y : ℕ) → blockCount p ≤ room → y < blocksDown p → y * blocksAcross p + blocksAcross p ≤ room
-costs-lie p room y r d = omega (arith, mul-le-mul-right (blocksAcross p) d, suc-mul y (blocksAcross p))
+    pub work-lies : (now : ℕ) → now ≡ m → SquareIn (start2 + x * blockSide) (w .stride) now
+    work-lies now e =
+        let down : y < blocksDown w = omega arith in
+        let across : x < blocksAcross w = omega arith in
+        record { rows = λ j j<. omega (arith, e, block-in w m y x j (r .planes .second) down across j<) }
 
 -- ---- the refusals in order, and what a call that is not refused keeps to
 
@@ -164,36 +179,32 @@ module _ (word : Word) (depth : ℕ) (p : Plane) (s : List ℕ) (w : Plane) (wor
 
   pub samples-decide : 0 ≡ shapesFault word depth p (length s) w (length work) → blockCount p ≤ room
       → (r : ℕ) → r ≡ sampleFault word depth p s → r ≡ intraFault word depth p s w work room
+  unfolding sizesFault
   samples-decide e h r d =
       let t = by-shapes word depth p (length s) w (length work) (sym e) in
-      room-enough e h r (sample-fault-is word depth p s (t .0) (each-alone p (length s) w (length work) (t .1) .0) r d)
+      room-enough e h r (sample-fault-is word depth p s (t .0) (or-none _ _ (t .1) .0) r d)
 
-  -- the parts of it: the depth, the two planes' sizes, and the room
-  parts : intraFault word depth p s w work room ≡ 0 → (wordFault word depth ≡ 0) × (sizesFault p (length s) w (length work) ≡ 0) × (blockCount p ≤ room)
+  pub fine : intraFault word depth p s w work room ≡ 0 → (sizesFault p (length s) w (length work) ≡ 0) × (blockCount p ≤ room)
   unfolding intraFault roomFault
-  parts e =
+  fine e =
       let t = or-none (roomFault word depth p (length s) w (length work) room) (refusal 16 (tooLarge depth p s)) e in
       let u = or-none (shapesFault word depth p (length s) w (length work)) (refusal 4 (ltb room (blockCount p))) (t .0) in
-      let v = by-shapes word depth p (length s) w (length work) (u .0) in
-      (v .0, v .1, ltb-false room (blockCount p) (passed 3 (ltb room (blockCount p)) (u .1)))
-
-  -- the costs can be taken, and the work plane be filled
-  pub fine : intraFault word depth p s w work room ≡ 0 → (planeFault p (length s) ≡ 0) × (blockCount p ≤ room)
-  fine e = (each-alone p (length s) w (length work) (parts e .1) .0, parts e .2)
-
-  pub work-fine : intraFault word depth p s w work room ≡ 0 → planeFault w (length work) ≡ 0
-  work-fine e = each-alone p (length s) w (length work) (parts e .1) .1
+      (by-shapes word depth p (length s) w (length work) (u .0) .1, ltb-false room (blockCount p) (passed 3 (ltb room (blockCount p)) (u .1)))
 
   -- what the depth is, so that the flat sample is its own
   pub suits-word : intraFault word depth p s w work room ≡ 0 → suits word depth ≡ true
-  suits-word e = suited word depth (parts e .0)
+  unfolding intraFault roomFault
+  suits-word e =
+      let t = or-none (roomFault word depth p (length s) w (length work) room) (refusal 16 (tooLarge depth p s)) e in
+      let u = or-none (shapesFault word depth p (length s) w (length work)) (refusal 4 (ltb room (blockCount p))) (t .0) in
+      suited word depth (by-shapes word depth p (length s) w (length work) (u .0) .0)
 
   -- the block count of planes that are not refused, and so the answer
   pub count-fits : shapesFault word depth p (length s) w (length work) ≡ 0 → blockCount p ≤ maxSide * maxSide
   count-fits e = count-most p (length s) (pair p (length s) w (length work) (by-shapes word depth p (length s) w (length work) e .1) .first)
 
   pub blocks-most : intraFault word depth p s w work room ≡ 0 → blockCount p ≤ maxSide * maxSide
-  blocks-most e = count-most p (length s) (lies p (length s) (fine e .0))
+  blocks-most e = count-most p (length s) (pair p (length s) w (length work) (fine e .0) .first)
 
 -- without a work plane the refusal is that of a plane which is its own
 pub alone : (word : Word) (depth : ℕ) (p : Plane) (s : List ℕ) (room r : ℕ) → r ≡ intraFault word depth p s p s room → r ≡ costsFault word depth p s room

@@ -10,7 +10,7 @@ ghost use lib.Dec.{ltb};
 ghost use lib.ListN.{length, getD};
 ghost use Rattle.answer.specs.Answer.{wholeAnswer};
 ghost use Rattle.plane.specs.Blocks.{blockSide, blocksAcross, blocksDown, blockCount, blocksStart};
-ghost use Rattle.plane.specs.Planes.{deep, suits, planeFault};
+ghost use Rattle.plane.specs.Planes.{deep, suits, planeFault, sizesFault};
 ghost use Rattle.satd.specs.Satd.{blockSize};
 ghost use Rattle.sums.specs.Places.{inRun};
 ghost use Rattle.sums.specs.Written.{written};
@@ -48,30 +48,6 @@ fn fill_block(work: &mut [u16], start: usize, stride: usize, flat: u16)
     }
 }
 
-// Row y of blocks of a work plane that is not refused.
-fn fill_blocks(w: Plane, work: &mut [u16], y: usize, flat: u16)
-    requires { ⌜ planeFault w (length (now work)) ≡ 0 ⌝ }
-    requires { ⌜ y < blocksDown w ⌝ }
-    ensures { λ _. ⌜ now (work .exit) ≡ filled flat (blocksStart w y) (w .stride) blockSide (blocksAcross w * blockSide) (now (work .entry)) ⌝ }
-{
-    let stride = w.stride;
-    let across = w.width / BLOCK_SIDE;
-    let start = w.block_row(work.len(), y);
-    for x in 0..across {
-        fill_block(work, start + x * BLOCK_SIDE, stride, flat);
-    }
-}
-
-// All whole blocks of it.
-fn fill_work(w: Plane, work: &mut [u16], flat: u16)
-    requires { ⌜ planeFault w (length (now work)) ≡ 0 ⌝ }
-    ensures { λ _. ⌜ now (work .exit) ≡ workAfter flat w (now (work .entry)) ⌝ }
-{
-    for y in 0..w.height / BLOCK_SIDE {
-        fill_blocks(w, work, y, flat);
-    }
-}
-
 // Eight samples of one part at the start of another.
 fn copy_row(to: &mut [u16], from: &[u16])
     requires { ⌜ blockSide ≤ length (now to) ⌝ }
@@ -96,13 +72,15 @@ fn load_block(block: &mut [u16], s: &[u16], start: usize, stride: usize)
     }
 }
 
-// The SATD of the block that starts at a place against the flat prediction.
+// The SATD of the block that starts at a place against the flat prediction. The samples are lent on as a part: where two loops call
+// this function the compiler keeps it apart, and so it is given their address itself, sees that no local list lies there, and loads
+// the block by its rows and not by single samples.
 fn block_cost(s: &[u16], start: usize, stride: usize, flat: u16) -> u32
     requires { ⌜ SquareIn start stride (length (now s)) ⌝ }
     ensures { λ r. ⌜ r ≡ squareCost flat (now (s .entry)) start stride ⌝ }
 {
     let mut block = [0u16; 64];
-    load_block(&mut block[..], s, start, stride);
+    load_block(&mut block[..], &s[..], start, stride);
     let prediction = [flat; 64];
     let Whole::Number(cost) = satd::deep::satd8x8(&block[..], &prediction[..]) else {
         return 0;
@@ -110,8 +88,48 @@ fn block_cost(s: &[u16], start: usize, stride: usize, flat: u16) -> u32
     cost as u32
 }
 
-// Row y of blocks of a plane that is not refused: each block's cost goes to its place in the list.
-fn costs_row(p: Plane, s: &[u16], costs: &mut [u32], y: usize, flat: u16)
+// Row y of blocks: each block of the work plane is filled, and its cost goes to its place in the list.
+fn costs_row(
+    p: Plane,
+    s: &[u16],
+    w: Plane,
+    work: &mut [u16],
+    costs: &mut [u32],
+    y: usize,
+    flat: u16,
+)
+    requires { ⌜ sizesFault p (length (now s)) w (length (now work)) ≡ 0 ⌝ }
+    requires { ⌜ blockCount p ≤ length (now costs) ⌝ }
+    requires { ⌜ y < blocksDown p ⌝ }
+    ensures { λ _. ⌜ now (work .exit) ≡ filled flat (blocksStart w y) (w .stride) blockSide (blocksAcross w * blockSide) (now (work .entry)) ⌝ }
+    ensures { λ _. ⌜ now (costs .exit) ≡ written (inRun (y * blocksAcross p) (blocksAcross p)) (costAt flat p (now (s .entry))) (now (costs .entry)) ⌝ }
+{
+    let stride = p.stride;
+    let stride2 = w.stride;
+    let across = p.width / BLOCK_SIDE;
+    let start = p.block_row(s.len(), y);
+    let start2 = w.block_row(work.len(), y);
+    let first = y * across;
+    for x in 0..across {
+        fill_block(work, start2 + x * BLOCK_SIDE, stride2, flat);
+        costs[first + x] = block_cost(s, start + x * BLOCK_SIDE, stride, flat);
+    }
+}
+
+// All whole blocks of a plane and a work plane that are not refused.
+fn all_costs(p: Plane, s: &[u16], w: Plane, work: &mut [u16], costs: &mut [u32], flat: u16)
+    requires { ⌜ sizesFault p (length (now s)) w (length (now work)) ≡ 0 ⌝ }
+    requires { ⌜ blockCount p ≤ length (now costs) ⌝ }
+    ensures { λ _. ⌜ now (work .exit) ≡ workAfter flat w (now (work .entry)) ⌝ }
+    ensures { λ _. ⌜ now (costs .exit) ≡ costsAfter flat p (now (s .entry)) (now (costs .entry)) ⌝ }
+{
+    for y in 0..p.height / BLOCK_SIDE {
+        costs_row(p, s, w, work, costs, y, flat);
+    }
+}
+
+// The same without a work plane. Row y of blocks: each block's cost goes to its place in the list.
+fn blocks_row(p: Plane, s: &[u16], costs: &mut [u32], y: usize, flat: u16)
     requires { ⌜ planeFault p (length (now s)) ≡ 0 ⌝ }
     requires { ⌜ blockCount p ≤ length (now costs) ⌝ }
     requires { ⌜ y < blocksDown p ⌝ }
@@ -126,14 +144,14 @@ fn costs_row(p: Plane, s: &[u16], costs: &mut [u32], y: usize, flat: u16)
     }
 }
 
-// All whole blocks of it.
-fn all_costs(p: Plane, s: &[u16], costs: &mut [u32], flat: u16)
+// All whole blocks of a plane that is not refused.
+fn all_blocks(p: Plane, s: &[u16], costs: &mut [u32], flat: u16)
     requires { ⌜ planeFault p (length (now s)) ≡ 0 ⌝ }
     requires { ⌜ blockCount p ≤ length (now costs) ⌝ }
     ensures { λ _. ⌜ now (costs .exit) ≡ costsAfter flat p (now (s .entry)) (now (costs .entry)) ⌝ }
 {
     for y in 0..p.height / BLOCK_SIDE {
-        costs_row(p, s, costs, y, flat);
+        blocks_row(p, s, costs, y, flat);
     }
 }
 
@@ -170,9 +188,7 @@ pub fn estimate_intra_costs(
     if fault != 0 {
         return Whole::Refused(fault);
     }
-    let flat = flat_sample(depth);
-    fill_work(w, work, flat);
-    all_costs(p, s, costs, flat);
+    all_costs(p, s, w, work, costs, flat_sample(depth));
     Whole::Number(((p.height / BLOCK_SIDE) * (p.width / BLOCK_SIDE)) as u64)
 }
 
@@ -185,6 +201,6 @@ pub fn plane_costs(depth: u64, p: Plane, s: &[u16], costs: &mut [u32]) -> Whole
     if fault != 0 {
         return Whole::Refused(fault);
     }
-    all_costs(p, s, costs, flat_sample(depth));
+    all_blocks(p, s, costs, flat_sample(depth));
     Whole::Number(((p.height / BLOCK_SIDE) * (p.width / BLOCK_SIDE)) as u64)
 }

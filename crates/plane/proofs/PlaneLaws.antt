@@ -147,12 +147,7 @@ pair p n q m e =
       heights = eqb-true _ _ (not-false _ (d .1));
     }
 
--- neither is refused alone
-pub each-alone : (p : Plane) (n : ℕ) (q : Plane) (m : ℕ) → sizesFault p n q m ≡ 0 → (planeFault p n ≡ 0) × (planeFault q m ≡ 0)
-unfolding sizesFault
-each-alone p n q m e = let f = or-none (planeFault p n) _ e in (f .0, or-none (planeFault q m) _ (f .1) .0)
-
--- and a plane beside itself is refused as it is alone
+-- a plane beside itself is refused as it is alone
 pub sizes-alone : (p : Plane) (n : ℕ) → sizesFault p n p n ≡ planeFault p n
 unfolding sizesFault sizesDiffer
 sizes-alone p n = go (ℕ-discrete (planeFault p n) 0)
