@@ -12,27 +12,30 @@
  *       be divided, so that the reduced side would be 0
  *    2  a plane needs more samples than were lent; a list or a block has another length than it must have
  *    3  two planes differ in width or height; a plane to reduce into has other sides than the reduced ones
- *    4  the cost list is shorter than the number of blocks
+ *    4  the cost list is shorter than the number of blocks, or the room of strips than 16 rows
  *    5  the depth is not 8, 10 or 12, or does not suit the plane's word: 8 goes with uint8_t, 10 and 12 with uint16_t
  *    6  a side of the resolution is outside 1 to 8,192, or the mode is not 0, 1 or 2; a factor is none of 1, 2, 4, 8, 16 and 32
  *    7  the frame number is 0, or 2^32 or more, or below the previous keyframe's, or not one above the last call's
  *    8  a set has more than BRINE_SET_LIMIT frames, or more than the last call's
  *    9  a set of one frame with a lookahead below 5, an offset of 0 and a mode that scores
  *   10  a list that is read has another length than it must have, or holds a number that it may not hold
- *   11  the lent places hold no state
+ *   11  the lent places hold no state, or the carry of strips is none
  *   12  a record of a log does not begin with its mark
  *   13  the cut of a record is above 1
  *   14  the number of a record is not above that of the record before it
  *   15  no room to write
  *   16  a visible sample is at or above 2 to the depth, which a sample of uint16_t can be
+ *   17  a strip has more than 64 rows, or more than are left of the frame
+ *   18  not all rows have come
  *
  * What is lent. A pointer is followed by its length, counted in elements. The pointer is aligned for its type. A list of
- * length 0 may be NULL. The places of single results, the `double *` ones and `torn`, are never NULL. A place that a function
- * writes must not overlap any other place that is lent to the same call; places that are only read may overlap. A function
- * keeps no pointer after it returns, and there is no hidden state: calls on different places may run in several threads.
+ * length 0 may be NULL. The places of single results, the `double *` ones, `torn` and the two of brine_strips_end, are never
+ * NULL. A place that a function writes must not overlap any other place that is lent to the same call; places that are only
+ * read may overlap. A function keeps no pointer after it returns, and there is no hidden state: calls on different places may
+ * run in several threads.
  *
- * Stack. A measure takes 2 KiB of it at most, with all that it calls (the tests hold it to that; docs/SPEED.md has each one's
- * bytes). brine_detector_step takes 6.7 KB, and what memcpy and memset take.
+ * Stack. A measure takes 2 KiB of it at most, and one of strips 1 KiB, with all that it calls (the tests hold it to that;
+ * docs/SPEED.md has each one's bytes). brine_detector_step takes 6.7 KB, and what memcpy and memset take.
  *
  * A plane is a pointer to samples, their number, then width, height, stride and origin: sample (x, y) is
  * samples[origin + y * stride + x]. Samples outside the plane's width and height are never read or written. Where a function
@@ -163,6 +166,86 @@ int64_t brine_intra_costs16(uint32_t depth,
 
 /* It has no depth: samples up to 65,535 are taken. Refusals: 2, where a length is not 64. */
 int64_t brine_satd8x8_16(const uint16_t *first, size_t first_len, const uint16_t *second, size_t second_len);
+
+/* Strips: the measures of two frames that come a few rows at a time, as some sensors deliver them. Matching strips of both
+ * frames are lent from the first row to the last, 0 to 64 rows a call. Wherever they are cut, the difference, the importance
+ * total and the second frame's intra costs are those of the whole planes. No second frame need be held: the caller keeps these
+ * three places from call to call, and hands them back as they are.
+ *   carry   BRINE_CARRY numbers: width, height, depth, the rows that have come, difference and importance total so far
+ *   room    16 * width samples or more: the last eight rows of the first frame, and then those of the second
+ *   costs   a cost for each whole block of 8 x 8 samples, in row order
+ * This is the loop that the driver of such a sensor writes. `next_strips` is its own: it gives where the next rows of both
+ * frames lie, and how many they are.
+ *
+ *     #include <brinepulley.h>
+ *
+ *     size_t next_strips(const uint8_t **before, const uint8_t **now);
+ *
+ *     int64_t measure_strips(size_t width, size_t height, uint8_t *room, uint32_t *costs,
+ *                            double *delta, double *importance, double *threshold)
+ *     {
+ *         uint64_t carry[BRINE_CARRY], difference, total;
+ *         const size_t blocks = (width / 8) * (height / 8);
+ *         int64_t answer = brine_strips_start(8, width, height, carry, BRINE_CARRY);
+ *         while (answer >= 0 && (size_t)answer < height) {
+ *             const uint8_t *before, *now;
+ *             const size_t rows = next_strips(&before, &now), count = rows * width;
+ *             answer = brine_strips_add(carry, BRINE_CARRY, before, count, width, rows, width, 0,
+ *                                       now, count, width, rows, width, 0, room, 16 * width, costs, blocks);
+ *         }
+ *         if (answer >= 0)
+ *             answer = brine_strips_end(carry, BRINE_CARRY, &difference, &total);
+ *         if (answer < 0)
+ *             return answer;
+ *         *delta = (double)difference / (double)(width * height);
+ *         *importance = (double)total / (double)blocks;
+ *         return brine_threshold(costs, blocks, blocks, threshold);
+ *     }
+ */
+#define BRINE_CARRY 6
+
+/* Begins two frames of width * height samples of that depth. Returns 0, and the carry says that no row has come.
+ * Refusals: 11, where carry_len is not BRINE_CARRY; 5, where the depth is none of 8, 10 and 12; 1, where a side is 0 or above
+ * 8,192. Then the carry is as it was. */
+int64_t brine_strips_start(uint32_t depth, size_t width, size_t height, uint64_t *carry, size_t carry_len);
+
+/* Takes the next rows of both frames, a strip of each. A strip is a plane of a few rows: each has its own stride and origin.
+ * Returns how many rows have come, these among them. What is written:
+ *   - in the carry the rows, the difference and the importance total, which rise;
+ *   - row y of the first frame to room[(y % 8) * width] and on, row y of the second to room[(8 + y % 8) * width] and on;
+ *   - once row 8 * k + 7 is there, the costs of row k of the second frame's blocks, from costs[k * (width / 8)] on.
+ * The rest of the room and of the costs stays. Carry, room, costs and strips must not overlap. A strip of 0 rows writes
+ * nothing; it may come at any time, after the last row too.
+ * Rubbish in the room is no fault and no refusal. What stood there before the first row bears on nothing. What is written over
+ * rows that have come bears on their row of blocks alone, and a sample of it at or above 2 to the depth has that row count
+ * nothing: its importances are left out, and if the sample is in the second frame's half, its costs stay as they were.
+ * Refusals:
+ *   11, where carry_len is not BRINE_CARRY, or the carry's width or height is 0 or above 8,192, or its rows are above its
+ *       height, or, with a depth of 8, 10 or 12, a total is above rows * width * the largest sample of that depth;
+ *   17, where a strip has more than 64 rows, or more than are left of the carry's height;
+ *   5, where the carry's depth is not 8;
+ *   1 and 2 of the first strip; 1 and 2 of the second. A strip of 0 rows passes 2, and its height passes 1;
+ *   3, where the strips differ in width or height, or their width is not the carry's;
+ *   4, where costs_len is below (width / 8) * (height / 8) of the carry, or room_len below 16 * its width, with 0 rows too.
+ * Then carry, room and costs are as they were. */
+int64_t brine_strips_add(uint64_t *carry, size_t carry_len,
+    const uint8_t *first, size_t first_len, size_t width, size_t height, size_t stride, size_t origin,
+    const uint8_t *second, size_t second_len, size_t width2, size_t height2, size_t stride2, size_t origin2,
+    uint8_t *room, size_t room_len, uint32_t *costs, size_t costs_len);
+
+/* The same of deeper samples. Refusals: 11; 17; 5, where the carry's depth is neither 10 nor 12; 1 and 2 of the first strip; 1
+ * and 2 of the second; 3; 4; 16 of either strip. Then carry, room and costs are as they were. */
+int64_t brine_strips_add16(uint64_t *carry, size_t carry_len,
+    const uint16_t *first, size_t first_len, size_t width, size_t height, size_t stride, size_t origin,
+    const uint16_t *second, size_t second_len, size_t width2, size_t height2, size_t stride2, size_t origin2,
+    uint16_t *room, size_t room_len, uint32_t *costs, size_t costs_len);
+
+/* Ends them, once all rows have come. Returns the number of whole blocks, (width / 8) * (height / 8), so of the costs. The
+ * difference is in *difference and the importance total in *importance_total; the carry is only read. The two places are never
+ * NULL, and neither overlaps the carry or the other.
+ * Refusals: 11, as of brine_strips_add; 5, where the carry's depth is none of 8, 10 and 12; 18, where fewer rows have come than
+ * the carry's height. Then the two places are as they were. */
+int64_t brine_strips_end(const uint64_t *carry, size_t carry_len, uint64_t *difference, uint64_t *importance_total);
 
 /* ---- the detector ---- */
 

@@ -15,8 +15,8 @@ grep -oE '\bbrine_[a-z0-9_]+ *\(' "$header" | tr -d ' (' | sort -u > "$room/decl
 "$NM" -g --defined-only "$ARCHIVE" 2> /dev/null | awk 'NF == 3 { print $3 }' | sort -u > "$room/shown"
 diff "$room/declared" "$room/shown" > "$room/log" 2>&1
 verdict "it shows the header's names alone" $?
-[ "$(wc -l < "$room/shown")" -ge 23 ]
-verdict "it shows all twenty-three" $?
+[ "$(wc -l < "$room/shown")" -ge 27 ]
+verdict "it shows all twenty-seven" $?
 
 # It is for TARGET. No product and sum are one operation, which would round once where the rules round twice.
 case $TARGET in
@@ -112,6 +112,51 @@ delta=$($RUN "$room/delta" "$room/a.pgm" "$room/b.pgm")
 $RUN "$COMMAND" measure "$room/a.pgm" "$room/b.pgm" --mode fast > "$room/log" 2>&1
 [ -n "$delta" ] && awk -v want="$delta" '$1 == "delta" { got = $2 } END { exit !(got > 1 && sprintf("%.17g", got) == want) }' "$room/log"
 verdict "its delta is the command's" $?
+
+# The loop of a driver that has strips, as it stands in docs/COMMAND.md and in the header: under 30 lines, and what it gives is what the
+# whole frames give.
+awk '/^##/ { in_it = /^### Strips/ } /^[^ ]/ { on = 0 } in_it && /^    #include/ { on = 1 } on { print substr($0, 5) }' \
+    "$root/docs/COMMAND.md" | sed -e :a -e '/^\n*$/{$d;N;ba' -e '}' > "$room/strips.c"
+sed -n '/^ \*     #include/,/^ \*     }$/s/^ \*\(     \)\{0,1\}//p' "$header" | diff "$room/strips.c" - > "$room/log"
+verdict "the header has the loop of docs/COMMAND.md" $?
+[ "$(wc -l < "$room/strips.c")" -ge 20 ] && [ "$(wc -l < "$room/strips.c")" -lt 30 ]
+verdict "the loop has fewer than 30 lines" $?
+cat >> "$room/strips.c" << 'END'
+#include <stdio.h>
+enum { WIDTH = 67, HEIGHT = 141, COUNT = WIDTH * HEIGHT, BLOCKS = (WIDTH / 8) * (HEIGHT / 8) };
+static uint8_t first[COUNT], second[COUNT], room[16 * WIDTH], work[COUNT];
+static uint32_t costs[BLOCKS], whole[BLOCKS];
+static size_t row, calls;
+size_t next_strips(const uint8_t **before, const uint8_t **now)
+{
+    static const size_t heights[] = {0, 7, 64, 1, 13};
+    const size_t few = heights[calls++ % 5], rows = few < HEIGHT - row ? few : HEIGHT - row;
+    *before = first + row * WIDTH;
+    *now = second + row * WIDTH;
+    row += rows;
+    return rows;
+}
+#define PLANE(samples) samples, COUNT, WIDTH, HEIGHT, WIDTH, 0
+int main(void)
+{
+    double got[3] = {-1, -2, -3}, want[3] = {0, 0, 0};
+    for (size_t i = 0; i < COUNT; i++) { first[i] = (uint8_t)(i * i / 7); second[i] = (uint8_t)(i * 31 + i / WIDTH); }
+    if (measure_strips(WIDTH, 0, room, costs, got, got + 1, got + 2) != -1 || got[0] != -1 || got[1] != -2 || got[2] != -3)
+        return 1;
+    if (measure_strips(WIDTH, HEIGHT, room, costs, got, got + 1, got + 2) != 0 || row != HEIGHT || calls < 6)
+        return 2;
+    if (brine_delta(8, PLANE(first), PLANE(second), want) != 0 || brine_importance(8, PLANE(first), PLANE(second), want + 1) != 0 ||
+        brine_intra_costs(8, PLANE(second), PLANE(work), whole, BLOCKS) != BLOCKS || brine_threshold(whole, BLOCKS, BLOCKS, want + 2) != 0)
+        return 3;
+    printf("%g %g %g, and of the whole frames %g %g %g\n", got[0], got[1], got[2], want[0], want[1], want[2]);
+    return got[0] > 0 && got[1] > 0 && got[2] > 0 && got[0] == want[0] && got[1] == want[1] && got[2] == want[2] ? 0 : 4;
+}
+END
+# shellcheck disable=SC2086 # words
+$COMPILER -std=c11 -Wall -Wextra -Werror -O2 -I"$build/include" $STATIC -o "$room/strips" "$room/strips.c" "$ARCHIVE" > "$room/log" 2>&1
+verdict "the loop compiles without a warning" $?
+$RUN "$room/strips" > "$room/log" 2>&1
+verdict "the loop gives the measures of the whole frames" $?
 
 # The recorder's loop of docs/FORMATS.md, as it stands there: run again over a torn rest it refuses the numbers that are there.
 awk '/^## /{ in_it = /^## A recorder/ } in_it && /^    / { print substr($0, 5) } in_it && /^$/' "$root/docs/FORMATS.md" \

@@ -8,7 +8,7 @@ verdict "--help" $?
 command_run decide --help
 [ "$status" = 0 ] && grep -q 'decide FILM.y4m' "$room/out"
 verdict "decide --help" $?
-for option in mode lookahead min max inter log first cuts bars dump times purge csv; do
+for option in mode lookahead min max inter log first strips cuts bars dump times purge csv; do
     [ "$(grep -c -- "--$option\b" "$room/out")" -ge 2 ] && grep -q "^ *--$option  *[a-z]" "$room/out"
     verdict "decide --help: --$option" $?
 done

@@ -72,6 +72,7 @@ cuts_at() { # NAME WANT ARGUMENTS..
 . "$(dirname "$0")/command-calls.sh"
 . "$(dirname "$0")/command-forms.sh"
 . "$(dirname "$0")/command-pairs.sh"
+. "$(dirname "$0")/command-strips.sh"
 . "$(dirname "$0")/command-stream.sh"
 
 count

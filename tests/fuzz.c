@@ -35,6 +35,8 @@ static void fuzz_film(struct bytes input)
         add_pair(&line, "--max", max);
     if (firsts[first % 8] > 0)
         add_pair(&line, "--first", firsts[first % 8]);
+    if (first / 8 > 0 && room_helps("--strips"))
+        add_pair(&line, "--strips", first / 8);
     if (mode == 1)
         add_costs(&line, pairs, 1 + max);
     add_switches(&line, switches);

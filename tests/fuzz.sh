@@ -43,7 +43,7 @@ for word in YUV4MPEG2 'FRAME\x0a' ' W16' ' H16' ' W8192' ' H8193' ' F1:600' ' F3
     ' C420' jpeg mpeg2 paldv ' C422' ' C444' ' Cmono' ' C420p10' p12 ' Cmono12' alpha ' XNOTE=' ' XYSCSS=' ' Itpp' 'P5 ' '# \x0a' '255\x0a' \
     '1023\x0a' '4095\x0a' \
     18446744073709551615 4294967296 e308 nan -inf 0x1p 1e-400 SC '\x0a' decide measure demo --help --version -h --mode --lookahead \
-    --min --max --first --inter --log --csv --purge --times --cuts --bars --dump fast standard none film.y4m costs.txt a.pgm b.pgm scores.log \
+    --min --max --first --strips --inter --log --csv --purge --times --cuts --bars --dump fast standard none film.y4m costs.txt a.pgm b.pgm scores.log \
     new.log -- - =; do
     printf '"%s"\n' "$word"
 done > "$place/words"
@@ -62,6 +62,8 @@ for colour in - 420jpeg 422 444 mono 420p10 422p12 444p10 mono12; do
         { bytes 2 0 0 4 130 0 0 4; film y4m 1 1 "$colour" $sea; } | seed film "none-$colour"
         { bytes 0 2 0 0 33 0 0 0; film y4m 3 5 "$colour" $sea; } | seed film "dump-$colour"
         { bytes 1 4 0 0 36 132 5 2; film y4m 2 2 "$colour" 50 52 92 93 96 92; } | seed film "dump-six-$colour"
+        { bytes 0 4 0 0 1 0 0 40; film y4m 3 5 "$colour" $sea; } | seed film "strips-$colour"
+        { bytes 1 4 0 0 1 0 12 58; film y4m 16 9 "$colour" $sea; } | seed film "strips-standard-$colour"
         { bytes 0 1 0 0 31 134 20 3; film header "C$colour W2 H7 F1:600 Im A0:0 XLENGTH=13" 'FRAME Itpp XA' $sea; } |
             seed film "log-$colour"
     }

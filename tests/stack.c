@@ -19,6 +19,10 @@ enum { RETURN_ADDRESS = 0 };
 static uint8_t first[COUNT], second[COUNT];
 static uint16_t deep_first[COUNT], deep_second[COUNT]; /* of 10 bits */
 static uint32_t costs[BLOCKS];
+static uint64_t carry[BRINE_CARRY], deep_carry[BRINE_CARRY], ended_carry[BRINE_CARRY]; /* of strips */
+static uint8_t room[16 * WIDTH];
+static uint16_t deep_room[16 * WIDTH];
+static uint64_t totals[2];
 static int32_t list[64];
 static double real;
 static int64_t answer;
@@ -110,6 +114,29 @@ static void call_blocks_deep(void)
     answer = ((int64_t (*)(const uint16_t *, size_t, const uint16_t *, size_t))callee)(deep_first, 64, deep_second, 64);
 }
 
+static void call_start(void)
+{
+    answer = ((int64_t (*)(uint32_t, size_t, size_t, uint64_t *, size_t))callee)(8, WIDTH, HEIGHT, carry, BRINE_CARRY);
+}
+
+/* All rows of both frames in one strip: rows of blocks are finished, and some rows are left. */
+static void call_strips(void)
+{
+    answer = ((int64_t (*)(uint64_t *, size_t, PLANE, PLANE, uint8_t *, size_t, uint32_t *, size_t))callee)(
+        carry, BRINE_CARRY, LENT(first), LENT(second), room, 16 * WIDTH, costs, BLOCKS);
+}
+
+static void call_strips_deep(void)
+{
+    answer = ((int64_t (*)(uint64_t *, size_t, DEEP, DEEP, uint16_t *, size_t, uint32_t *, size_t))callee)(
+        deep_carry, BRINE_CARRY, LENT(deep_first), LENT(deep_second), deep_room, 16 * WIDTH, costs, BLOCKS);
+}
+
+static void call_end(void)
+{
+    answer = ((int64_t (*)(const uint64_t *, size_t, uint64_t *, uint64_t *))callee)(ended_carry, BRINE_CARRY, totals, totals + 1);
+}
+
 static const struct measure {
     const char *name;
     any *function, *call;
@@ -132,16 +159,29 @@ static const struct measure {
     {"brine_importance16", (any *)brine_importance16, call_deep_real},
     {"brine_intra_costs16", (any *)brine_intra_costs16, call_deep_costs},
     {"brine_satd8x8_16", (any *)brine_satd8x8_16, call_blocks_deep},
+    {"brine_strips_start", (any *)brine_strips_start, call_start},
+    {"brine_strips_add", (any *)brine_strips_add, call_strips},
+    {"brine_strips_add16", (any *)brine_strips_add16, call_strips_deep},
+    {"brine_strips_end", (any *)brine_strips_end, call_end},
     {0},
 };
+
+/* A transform leaves other numbers, and rows that have come do not come again. */
+static void lend_anew(void)
+{
+    for (int32_t i = 0; i < 64; i++)
+        list[i] = i * 1000 - 32000;
+    memcpy(carry, (uint64_t[]){WIDTH, HEIGHT, 8, 0, 0, 0}, sizeof carry);
+    memcpy(deep_carry, (uint64_t[]){WIDTH, HEIGHT, 10, 0, 0, 0}, sizeof deep_carry);
+    memcpy(ended_carry, (uint64_t[]){WIDTH, HEIGHT, 8, HEIGHT, 9, 9}, sizeof ended_carry);
+}
 
 static size_t used_with(any *function, any *call, unsigned char paint)
 {
     static unsigned char stack[1 << 16];
     static ucontext_t here, there;
     callee = function;
-    for (int32_t i = 0; i < 64; i++)
-        list[i] = i * 1000 - 32000; /* a transform leaves other numbers */
+    lend_anew();
     memset(stack, paint, sizeof stack);
     if (getcontext(&there) != 0)
         exit(1);

@@ -9,6 +9,7 @@ SUITE=stack
 here=$(dirname "$0")
 header=$here/../include/brinepulley.h
 most=2048 # the stack of the board's measuring task
+less=1024 # that of the task that takes strips
 
 told() { sh "$here/../bench/frames.sh" "$TARGET" "$1" "$NM" "$OBJDUMP" 2> "$room/err"; }
 # Names and depths alone.
@@ -18,8 +19,8 @@ told "$ARCHIVE" > "$room/rows"
 verdict "the depth of every function can be told" $?
 depths "$room/rows" > "$room/depths"
 awk '/^\/\* ---- /{ on = /---- measures ----/ } on' "$header" | grep -oE '\bbrine_[a-z0-9_]+ *\(' | tr -d ' (' | sort -u > "$room/measures"
-[ "$(wc -l < "$room/measures")" -ge 18 ]
-verdict "the header declares eighteen measures or more" $?
+[ "$(wc -l < "$room/measures")" -ge 22 ]
+verdict "the header declares twenty-two measures or more" $?
 cut -d ' ' -f 1 "$room/depths" | sort > "$room/names"
 comm -23 "$room/measures" "$room/names" > "$room/log"
 [ ! -s "$room/log" ]
@@ -30,16 +31,19 @@ grep -w -F -f "$room/measures" "$room/rows" | grep 'outside:' > "$room/log"
 [ ! -s "$room/log" ]
 verdict "no measure calls another library" $?
 
-within() { # DEPTHS: each at most `most`
-    awk -v most="$most" '!($2 ~ /^[0-9]+$/ && $2 <= most)' "$1" > "$room/log"
+within() { # DEPTHS MOST
+    awk -v most="$2" '!($2 ~ /^[0-9]+$/ && $2 <= most)' "$1" > "$room/log"
     [ -s "$1" ] && [ ! -s "$room/log" ]
 }
 grep -w -F -f "$room/measures" "$room/depths" > "$room/few"
-within "$room/few"
+within "$room/few" "$most"
 verdict "every measure takes $most bytes of stack at most" $?
+grep '^brine_strips_' "$room/few" > "$room/strips"
+[ "$(wc -l < "$room/strips")" = 4 ] && within "$room/strips" "$less"
+verdict "the four of strips take $less bytes of stack at most" $?
 
-# A run takes no more than was told; SATD really takes its block of differences, the reduction the sums of a chunk, and the deep intra
-# costs a block, its prediction and their differences.
+# A run takes no more than was told; SATD really takes its block of differences, and so do strips, the reduction the sums of a chunk, and
+# the deep intra costs a block, its prediction and their differences.
 # shellcheck disable=SC2086 # words
 $COMPILER -std=c11 -D_POSIX_C_SOURCE=200809L -O2 -Wall -Wextra -Werror -I"$here/../include" $STATIC -o "$room/stack" "$here/stack.c" \
     "$ARCHIVE" > "$room/log" 2>&1
@@ -51,7 +55,8 @@ verdict "it runs every measure" $?
 awk 'NR == FNR { told[$1] = $2; next } !($1 in told) || $2 > told[$1]' "$room/depths" "$room/used" > "$room/log"
 [ -s "$room/used" ] && [ ! -s "$room/log" ]
 verdict "a run takes no more than was told" $?
-for measure in brine_satd8x8:256 brine_satd8x8_16:256 brine_reduce:128 brine_intra_costs16:512; do
+for measure in brine_satd8x8:256 brine_satd8x8_16:256 brine_reduce:128 brine_intra_costs16:512 \
+    brine_strips_add:256 brine_strips_add16:256; do
     awk -v name="${measure%:*}" -v least="${measure#*:}" '$1 == name && $2 >= least { found = 1 } END { exit !found }' "$room/used"
     verdict "a run of ${measure%:*} takes ${measure#*:} bytes or more" $?
 done
@@ -73,7 +78,7 @@ unclear() { # NAME: of a function or an object
 }
 object deep 'static int __attribute__((noinline)) inner(int n) { volatile char room[1000]; room[n] = 1; return room[n / 2]; }
 int deep(int n) { volatile char room[1200]; room[n] = 2; return inner(n) + room[n / 3]; }'
-takes deep 2200 2400 && ! within "$room/few"
+takes deep 2200 2400 && ! within "$room/few" "$most"
 verdict "a function and what it calls, too deep together, would be seen" $?
 # x86-64 takes no frame for it, and uses what is below the stack pointer.
 flat='int flat(int n) { volatile char room[100]; room[n] = 1; return room[n / 2]; }'

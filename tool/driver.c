@@ -141,7 +141,7 @@ enum status drive(struct film *film, struct costs *costs, const struct settings 
 
     if (status != DONE)
         return status;
-    status = gauge_start(&gauge, film, costs, settings->mode);
+    status = gauge_start(&gauge, film, costs, settings->mode, settings->strip_rows);
     if (status == DONE)
         status = decide_all(&driver, &gauge, take, taker);
     gauge_free(&gauge);

@@ -10,6 +10,7 @@ struct settings {
     size_t lookahead;
     uint64_t min;
     uint64_t max;
+    size_t strip_rows; /* 0: frames are measured whole */
 };
 
 /* A detector's state, as the library has it. */

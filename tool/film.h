@@ -33,7 +33,13 @@ enum status film_open_y4m(struct film *film, const char *path);
 
 void film_close(struct film *film);
 
-/* Says that the library refused a sample of the last frame that was fetched. */
-enum status film_refused(const struct film *film, const struct plane *luma, int64_t answer);
+/* The next frame of a Y4M film in parts: its beginning; the next rows of its luma, as many as the plane has, until all have come; and
+   its end, from which on it counts as fetched. */
+enum fetched film_begin(struct film *film);
+enum fetched film_rows(struct film *film, struct plane *rows);
+enum fetched film_end(struct film *film);
+
+/* Says that the library refused a sample of the last frame that was fetched; `fault` says which, as plane_fault has it. */
+enum status film_refused(const struct film *film, const char *fault, int64_t answer);
 
 #endif

@@ -29,10 +29,12 @@ static bool make_room(struct gauge *gauge)
 
 /* Fetches a frame into `now`, reduced; *ended where there is none. A frame of two bytes a sample is reduced by a factor of 1 too,
    which copies it: so the library looks at its samples as soon as it is there, in every mode, and it is known which frame is at
-   fault. */
+   fault. By strips a frame is measured as it comes, and is never whole. */
 static enum status fetch(struct gauge *gauge, bool *ended)
 {
     struct film *film = gauge->film;
+    if (gauge->by_strips)
+        return strips_fetch(&gauge->strips, ended);
     const bool whole = gauge->factor == 1 && sample_bytes(film->depth) == 1;
     const enum fetched fetched = film->next(film, whole ? &gauge->now : &gauge->full);
     *ended = fetched == END;
@@ -41,19 +43,21 @@ static enum status fetch(struct gauge *gauge, bool *ended)
     if (*ended || whole)
         return DONE;
     const int64_t answer = plane_reduce(&gauge->full, gauge->factor, &gauge->now);
-    if (answer == -REFUSED_SAMPLE)
-        return film_refused(film, &gauge->full, answer);
+    char fault[FAULT_ROOM] = "";
+    if (answer == -REFUSED_SAMPLE && plane_fault(&gauge->full, 0, fault))
+        return film_refused(film, fault, answer);
     return answer < 0 ? say_refused(answer, "%s: its frames cannot be reduced", film->name) : DONE;
 }
 
-enum status gauge_start(struct gauge *gauge, struct film *film, struct costs *costs, uint32_t mode)
+enum status gauge_start(struct gauge *gauge, struct film *film, struct costs *costs, uint32_t mode, size_t strip_rows)
 {
-    *gauge = (struct gauge){.film = film, .costs = costs, .mode = mode};
+    *gauge = (struct gauge){.film = film, .costs = costs, .mode = mode, .by_strips = strip_rows > 0};
     const int64_t factor = brine_scale_factor(film->width, film->height, mode);
     if (factor < 0)
         return say_refused(factor, "%s: its sides have no scale factor", film->name);
     gauge->factor = (size_t)factor;
-    if (!make_room(gauge))
+    const bool measured = mode != BRINE_MODE_NONE;
+    if (!(gauge->by_strips ? strips_make(&gauge->strips, film, gauge->factor, strip_rows, measured) : make_room(gauge)))
         return say_failed("%s: not enough memory for its frames", film->name);
     bool ended;
     const enum status status = fetch(gauge, &ended);
@@ -63,12 +67,16 @@ enum status gauge_start(struct gauge *gauge, struct film *film, struct costs *co
 static int64_t measure_fast(struct gauge *g, struct pair *pair)
 {
     pair->threshold = fast_threshold(g->film->depth);
+    if (g->by_strips)
+        return strips_delta(&g->strips, &pair->inter);
     return plane_delta(&g->before, &g->now, &pair->inter);
 }
 
 /* Importance of the pair; the threshold comes from its second frame. */
 static int64_t measure_standard(struct gauge *g, struct pair *pair)
 {
+    if (g->by_strips)
+        return strips_importance(&g->strips, &pair->importance, &pair->threshold);
     int64_t answer = plane_importance(&g->now, &g->before, &pair->importance);
     if (answer < 0)
         return answer;
@@ -94,7 +102,8 @@ enum status gauge_next(struct gauge *gauge, struct pair *pair, bool *ended)
     if (gauge->mode == BRINE_MODE_STANDARD)
         answer = measure_standard(gauge, pair);
     if (answer < 0)
-        return say_refused(answer, "%s: its frames cannot be measured", gauge->film->name);
+        return say_refused(answer, "%s: %s", gauge->film->name,
+                           answer == -REFUSED_UNENDED ? "rows of a frame are missing" : "its frames cannot be measured");
     return gauge->mode == BRINE_MODE_STANDARD ? costs_next(gauge->costs, &pair->inter) : DONE;
 }
 
@@ -105,5 +114,6 @@ void gauge_free(struct gauge *gauge)
     plane_free(&gauge->now);
     plane_free(&gauge->work);
     free(gauge->blocks);
+    strips_free(&gauge->strips);
     *gauge = (struct gauge){0};
 }

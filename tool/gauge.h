@@ -4,6 +4,7 @@
 
 #include "costs.h"
 #include "film.h"
+#include "strips.h"
 
 /* What is measured of one pair of frames. In Fast mode the detector reads the inter cost alone; in None mode all are 0. */
 struct pair {
@@ -26,11 +27,13 @@ struct gauge {
     struct plane work;   /* the work plane of the intra costs */
     uint32_t *blocks;
     size_t block_count;
+    bool by_strips; /* then these take the place of the planes and the blocks */
+    struct strips strips;
 };
 
-/* Makes room and fetches the film's first frame. The sides must be ones that the library accepts. gauge_free is due
-   whatever comes of it. */
-enum status gauge_start(struct gauge *gauge, struct film *film, struct costs *costs, uint32_t mode);
+/* Makes room and fetches the film's first frame. The sides must be ones that the library accepts. With strip rows above 0 frames
+   come and are measured in strips of so many rows. gauge_free is due whatever comes of it. */
+enum status gauge_start(struct gauge *gauge, struct film *film, struct costs *costs, uint32_t mode, size_t strip_rows);
 
 /* Fetches the next frame and measures the pair; *ended where there is none. */
 enum status gauge_next(struct gauge *gauge, struct pair *pair, bool *ended);

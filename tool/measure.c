@@ -56,9 +56,9 @@ static enum status refused(const struct plane *a, const struct plane *b, char **
 {
     char fault[FAULT_ROOM] = "";
     if (answer == -REFUSED_SAMPLE) {
-        const bool first = plane_fault(a, fault);
+        const bool first = plane_fault(a, 0, fault);
         if (!first)
-            plane_fault(b, fault);
+            plane_fault(b, 0, fault);
         return say_refused(answer, "%s: %s", names[first ? 0 : 1], fault);
     }
     if (answer == -REFUSED_UNLIKE)

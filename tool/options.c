@@ -13,6 +13,7 @@ enum {
     OPTION_INTER,
     OPTION_LOG,
     OPTION_FIRST,
+    OPTION_STRIPS,
     OPTION_CUTS,
     OPTION_BARS,
     OPTION_DUMP,
@@ -25,10 +26,11 @@ static const struct option known[] = {
     {"mode", required_argument, NULL, OPTION_MODE},   {"lookahead", required_argument, NULL, OPTION_LOOKAHEAD},
     {"min", required_argument, NULL, OPTION_MIN},     {"max", required_argument, NULL, OPTION_MAX},
     {"inter", required_argument, NULL, OPTION_INTER}, {"log", required_argument, NULL, OPTION_LOG},
-    {"first", required_argument, NULL, OPTION_FIRST}, {"cuts", no_argument, NULL, OPTION_CUTS},
-    {"bars", no_argument, NULL, OPTION_BARS},         {"dump", no_argument, NULL, OPTION_DUMP},
-    {"times", no_argument, NULL, OPTION_TIMES},       {"purge", no_argument, NULL, OPTION_PURGE},
-    {"csv", no_argument, NULL, OPTION_CSV},           WORDS_LAST};
+    {"first", required_argument, NULL, OPTION_FIRST}, {"strips", required_argument, NULL, OPTION_STRIPS},
+    {"cuts", no_argument, NULL, OPTION_CUTS},         {"bars", no_argument, NULL, OPTION_BARS},
+    {"dump", no_argument, NULL, OPTION_DUMP},         {"times", no_argument, NULL, OPTION_TIMES},
+    {"purge", no_argument, NULL, OPTION_PURGE},       {"csv", no_argument, NULL, OPTION_CSV},
+    WORDS_LAST};
 
 bool mode_read(const char *text, uint32_t *mode)
 {
@@ -64,6 +66,15 @@ static enum status take_first(const char *value, uint64_t *first)
     return status == DONE && *first > UINT32_MAX ? say_usage("--first wants a number below 2^32, not '%s'", value) : status;
 }
 
+static enum status take_strips(const char *value, size_t *rows)
+{
+    uint64_t number = 0;
+    if (!number_read(value, &number) || number < 1 || number > LARGEST_STRIP)
+        return say_usage("--strips wants a number of rows from 1 to %d, not '%s'", LARGEST_STRIP, value);
+    *rows = (size_t)number;
+    return DONE;
+}
+
 /* For a film '-' is the standard input. No log can be written there, and no costs are read from it. */
 static enum status take_file(const char *name, const char *value, const char **file)
 {
@@ -93,6 +104,8 @@ static enum status take_option(struct options *options, int option, const char *
         return take_number("--max", value, &options->settings.max);
     case OPTION_FIRST:
         return take_first(value, &options->first);
+    case OPTION_STRIPS:
+        return take_strips(value, &options->settings.strip_rows);
     case OPTION_LOG:
         return take_file("--log", value, &options->log);
     case OPTION_INTER:

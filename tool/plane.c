@@ -42,7 +42,7 @@ size_t plane_read(struct plane *plane, FILE *file, enum byte_order order)
 }
 
 /* A byte is never too large for 8 bits. */
-bool plane_fault(const struct plane *plane, char out[FAULT_ROOM])
+bool plane_fault(const struct plane *plane, size_t row, char out[FAULT_ROOM])
 {
     const uint16_t *words = plane->samples;
     const size_t count = has_bytes(plane) ? 0 : plane->count;
@@ -51,7 +51,7 @@ bool plane_fault(const struct plane *plane, char out[FAULT_ROOM])
         i++;
     if (i < count)
         snprintf(out, FAULT_ROOM, "its sample (%zu, %zu) is %u, and the largest of %u bits is %u", i % plane->width,
-                 i / plane->width, (unsigned)words[i], (unsigned)plane->depth, (1u << plane->depth) - 1);
+                 row + i / plane->width, (unsigned)words[i], (unsigned)plane->depth, (1u << plane->depth) - 1);
     return i < count;
 }
 
@@ -92,4 +92,15 @@ int64_t plane_intra_costs(const struct plane *plane, struct plane *work, uint32_
 {
     return has_bytes(plane) ? brine_intra_costs(plane->depth, LENT(plane), LENT(work), costs, count)
                             : brine_intra_costs16(plane->depth, LENT(plane), LENT(work), costs, count);
+}
+
+/* The rows lie in the frame behind those before them. */
+int64_t plane_add_strip(uint64_t *carry, const struct plane *first, size_t row, const struct plane *strip, struct plane *room,
+                        uint32_t *costs, size_t count)
+{
+    const size_t width = first->width, height = strip->height;
+    return has_bytes(first) ? brine_strips_add(carry, BRINE_CARRY, first->samples, first->count, width, height, width, row * width,
+                                               LENT(strip), room->samples, room->count, costs, count)
+                            : brine_strips_add16(carry, BRINE_CARRY, first->samples, first->count, width, height, width, row * width,
+                                                 LENT(strip), room->samples, room->count, costs, count);
 }

@@ -32,9 +32,9 @@ size_t plane_read(struct plane *plane, FILE *file, enum byte_order order);
 
 enum { FAULT_ROOM = 128 };
 
-/* Says in words which sample is the first that is too large for the depth; false where none is. The library judges: this is for
-   the message, once it has refused with 16. */
-bool plane_fault(const struct plane *plane, char out[FAULT_ROOM]);
+/* Says in words which sample is the first that is too large for the depth; false where none is. `row` is the number of the plane's
+   first row, in a frame. The library judges: this is for the message, once it has refused with 16. */
+bool plane_fault(const struct plane *plane, size_t row, char out[FAULT_ROOM]);
 
 /* The library's measures, of planes of one depth. Each answers as the library does. */
 int64_t plane_reduce(const struct plane *plane, size_t factor, struct plane *reduced);
@@ -43,5 +43,9 @@ int64_t plane_importance_total(const struct plane *first, const struct plane *se
 int64_t plane_delta(const struct plane *first, const struct plane *second, double *delta);
 int64_t plane_importance(const struct plane *first, const struct plane *second, double *importance);
 int64_t plane_intra_costs(const struct plane *plane, struct plane *work, uint32_t *costs, size_t count);
+
+/* Lends a strip and the rows of the first frame that match it, those from `row` on. */
+int64_t plane_add_strip(uint64_t *carry, const struct plane *first, size_t row, const struct plane *strip, struct plane *room,
+                        uint32_t *costs, size_t count);
 
 #endif

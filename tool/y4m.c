@@ -181,15 +181,14 @@ static enum fetched broken_frame(const struct film *film, const char *how)
     return BROKEN;
 }
 
-enum status film_refused(const struct film *film, const struct plane *luma, int64_t answer)
+enum status film_refused(const struct film *film, const char *fault, int64_t answer)
 {
-    char name[NAME_ROOM], fault[FAULT_ROOM] = "";
-    plane_fault(luma, fault);
+    char name[NAME_ROOM];
     return say_refused(answer, "%s: %s: %s", film->name, frame_name(name, film, film->frames - 1, film->begin), fault);
 }
 
 /* The line before a frame: FRAME, and perhaps words behind it, which say nothing about luma. */
-static enum fetched read_frame_line(struct film *film)
+enum fetched film_begin(struct film *film)
 {
     char word[] = "FRAME";
     const size_t length = strlen(word);
@@ -210,19 +209,36 @@ static enum fetched read_frame_line(struct film *film)
     return fault == NULL ? FRAME : broken_frame(film, fault);
 }
 
-static enum fetched next_y4m(struct film *film, struct plane *luma)
+/* A frame that ends too early, or cannot be read. */
+static enum fetched short_frame(const struct film *film)
 {
-    const size_t each = sample_bytes(film->depth), chroma = chroma_count(film) * each;
-    const enum fetched fetched = read_frame_line(film);
+    return broken_frame(film, ferror(film->file) ? strerror(errno) : "it is cut short");
+}
 
-    if (fetched != FRAME)
-        return fetched;
-    if (plane_read(luma, film->file, LOW_FIRST) != luma->count || !skip(film->file, chroma))
-        return broken_frame(film, ferror(film->file) ? strerror(errno) : "it is cut short");
+enum fetched film_rows(struct film *film, struct plane *rows)
+{
+    return plane_read(rows, film->file, LOW_FIRST) == rows->count ? FRAME : short_frame(film);
+}
+
+/* Behind luma is chroma. */
+enum fetched film_end(struct film *film)
+{
+    const size_t each = sample_bytes(film->depth), luma = film->width * film->height, chroma = chroma_count(film);
+
+    if (!skip(film->file, chroma * each))
+        return short_frame(film);
     film->begin = film->bytes;
-    film->bytes += strlen("FRAME") + film->line.length + 1 + luma->count * each + chroma;
+    film->bytes += strlen("FRAME") + film->line.length + 1 + (luma + chroma) * each;
     film->frames++;
     return FRAME;
+}
+
+static enum fetched next_y4m(struct film *film, struct plane *luma)
+{
+    enum fetched fetched = film_begin(film);
+    if (fetched == FRAME)
+        fetched = film_rows(film, luma);
+    return fetched == FRAME ? film_end(film) : fetched;
 }
 
 enum status film_open_y4m(struct film *film, const char *path)

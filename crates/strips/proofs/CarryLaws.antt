@@ -11,7 +11,7 @@ use lib.ListN.{length}
 use Rattle.answer.specs.Refusal.{refusal}
 use Rattle.answer.proofs.Laws.{or-no, passed, test-given, test-passed}
 use Rattle.plane.specs.Blocks.{blockSide}
-use Rattle.plane.specs.Planes.{Word, byte, deep, suits, badSide, maxSide, wordFault}
+use Rattle.plane.specs.Planes.{Word, byte, deep, suits, badSide, maxSide, depthFault, wordFault}
 use Rattle.plane.proofs.PlaneLaws.{good-side, total-fits}
 use Rattle.plane.proofs.SampleLaws.{suited}
 use Rattle.strips.specs.declared.carry.Carry.{Carry}
@@ -52,6 +52,7 @@ unfit-is c e = rw e refl
 pub record Fit (c : Carry) : Type 0 where
   pub width-some : 0 < c .width
   pub width-most : c .width ≤ maxSide
+  pub height-some : 0 < c .height
   pub height-most : c .height ≤ maxSide
   pub come : c .rows ≤ c .height
   pub totals : totalsPast c ≡ false
@@ -59,48 +60,52 @@ pub record Fit (c : Carry) : Type 0 where
 abbrev sidesPast : Carry → Bool
 sidesPast c = badSide (c .width) || badSide (c .height) || ltb (c .height) (c .rows)
 
-pub sides-fit : (c : Carry) → sidesPast c ≡ false → ((0 < c .width) × (c .width ≤ maxSide)) × (c .height ≤ maxSide) × (c .rows ≤ c .height)
+pub sides-fit : (c : Carry) → sidesPast c ≡ false → ((0 < c .width) × (c .width ≤ maxSide)) × ((0 < c .height) × (c .height ≤ maxSide)) × (c .rows ≤ c .height)
 sides-fit c e =
     let t = or-no (badSide (c .width) || badSide (c .height)) (ltb (c .height) (c .rows)) e in
     let u = or-no (badSide (c .width)) (badSide (c .height)) (t .0) in
-    (good-side (c .width) (u .0), good-side (c .height) (u .1) .1, ltb-false (c .height) (c .rows) (t .1))
+    (good-side (c .width) (u .0), good-side (c .height) (u .1), ltb-false (c .height) (c .rows) (t .1))
 
 pub fit : (c : Carry) → carryUnfit c ≡ false → Fit c
 unfolding carryUnfit
 fit c e =
     let t = or-no (sidesPast c) (totalsPast c) e in
     let s = sides-fit c (t .0) in
-    record { width-some = s .0 .0; width-most = s .0 .1; height-most = s .1; come = s .2; totals = t .1 }
+    record { width-some = s .0 .0; width-most = s .0 .1; height-some = s .1 .0; height-most = s .1 .1; come = s .2; totals = t .1 }
 
--- at a depth that suits a word its totals are within their limit
+-- a depth that suits a word is one of the three
+pub one-of-three : (word : Word) (depth : ℕ) → suits word depth ≡ true → suits byte depth || suits deep depth ≡ true
+one-of-three byte depth s = rw s refl
+one-of-three deep depth s = either (suits byte depth) (suits deep depth) s
+  where
+    either : (a b : Bool) → b ≡ true → a || b ≡ true
+    either true b t = refl
+    either false b t = t
+
+pub word-depth : (word : Word) (depth : ℕ) → wordFault word depth ≡ 0 → 0 ≡ depthFault depth
+unfolding depthFault
+word-depth word depth e = test-passed 5 _ (ap not (one-of-three word depth (suited word depth e)))
+
+-- and its totals are within their limit
 pub sound : (word : Word) (c : Carry) → carryUnfit c ≡ false → wordFault word (c .depth) ≡ 0 → Sound word c
 unfolding totalsPast
 sound word c e d =
     let f = fit c e in
-    let t = or-no (ltb (totalsMost c) (c .difference)) (ltb (totalsMost c) (c .importance)) (limited word (suited word (c .depth) d) (f .totals)) in
+    let t = or-no (ltb (totalsMost c) (c .difference)) (ltb (totalsMost c) (c .importance))
+    (limited (suits byte (c .depth) || suits deep (c .depth)) (above c (totalsMost c)) (one-of-three word (c .depth) (suited word (c .depth) d)) (f .totals)) in
     record {
       depth-fits = d;
       width-some = f .width-some;
       width-most = f .width-most;
+      height-some = f .height-some;
       height-most = f .height-most;
       come = f .come;
       difference = ltb-false (totalsMost c) (c .difference) (t .0);
       importance = ltb-false (totalsMost c) (c .importance) (t .1);
     }
   where
-    either : (a b t : Bool) → a || b ≡ true → (a || b) && t ≡ false → t ≡ false
-    either a b t h e = rw h at e
-
-    one : (word : Word) → suits word (c .depth) ≡ true → suits byte (c .depth) || suits deep (c .depth) ≡ true
-    one byte s = rw s refl
-    one deep s = by-case (suits byte (c .depth)) (suits deep (c .depth)) s
-      where
-        by-case : (a b : Bool) → b ≡ true → a || b ≡ true
-        by-case true b s = refl
-        by-case false b s = s
-
-    limited : (word : Word) → suits word (c .depth) ≡ true → (suits byte (c .depth) || suits deep (c .depth)) && above c (totalsMost c) ≡ false → above c (totalsMost c) ≡ false
-    limited word s e = either (suits byte (c .depth)) (suits deep (c .depth)) (above c (totalsMost c)) (one word s) e
+    limited : (a t : Bool) → a ≡ true → a && t ≡ false → t ≡ false
+    limited a t h e = rw h at e
 
 -- ---- 11 over lent places
 

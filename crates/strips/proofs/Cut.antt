@@ -34,7 +34,7 @@ use Rattle.strips.specs.Needs.{Sound, Taken, held}
 use Rattle.strips.specs.Rows.{Strip, Held, roomLong, heldRows}
 use Rattle.strips.specs.Strips.{Kept, kept, startOf, startAfter, startFault, stripMost, tooManyRows, stripFault, widthsDiffer, tooLittle, matchFault, shapeFault, addFault, addOf, addAfter, taken, endFault, endOf, totalsOf}
 use Rattle.strips.proofs.AddLaws.{add-known}
-use Rattle.strips.proofs.CarryLaws.{fit-passed, sound}
+use Rattle.strips.proofs.CarryLaws.{word-depth, fit-passed, sound}
 use Rattle.strips.proofs.Frames.{planes, samples-below, carryAt, carry-fits}
 use Rattle.strips.proofs.Level.{Level, Suits, Same, level-next, none-large}
 use Rattle.strips.proofs.RowLaws.{rows-none, rows-more}
@@ -180,19 +180,6 @@ module _ (word : Word) (depth : ℕ) (frames : Strip) (before : List ℕ)
       subst (λ (k : Kept). ((addOf word (stateAt r room costs) s ≡ gives n) × Accepted word k n rest) × Ends k rest) (sym (leaves .0)) ((sym answer, then .0), then .1)
 
 -- ---- the whole planes
-
--- a depth that suits a word is one
-word-depth : (word : Word) (depth : ℕ) → wordFault word depth ≡ 0 → 0 ≡ depthFault depth
-unfolding depthFault
-word-depth word depth e = test-passed 5 _ (ap not (one word (suited word depth e)))
-  where
-    one : (word : Word) → suits word depth ≡ true → suits byte depth || suits deep depth ≡ true
-    one byte s = rw s refl
-    one deep s = either (suits byte depth) (suits deep depth) s
-      where
-        either : (a b : Bool) → b ≡ true → a || b ≡ true
-        either true b t = refl
-        either false b t = t
 
 module _ (word : Word) (depth : ℕ) (frames : Strip) (w : Plane) (work ns room costs : List ℕ)
     (good : pairFault word depth (frames .first) (frames .a) (frames .second) (frames .b) ≡ 0)

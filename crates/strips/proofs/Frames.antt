@@ -50,7 +50,7 @@ module _ (word : Word) (depth : ℕ) (frames : Strip) (fine : pairFault word dep
   b = frames .b
 
   -- the largest sample
-  abbrev most : ℕ
+  abbrev pub most : ℕ
   most = 2 ^ depth - 1
 
   pub planes : Pair p (length a) q (length b)
@@ -64,7 +64,7 @@ module _ (word : Word) (depth : ℕ) (frames : Strip) (fine : pairFault word dep
   -- ---- the totals
 
   -- of two samples, and of r rows
-  rows-most : (r : ℕ) → r ≤ p .height → sumBelow r (rowSad p a q b) ≤ r * (p .width * most)
+  pub rows-most : (r : ℕ) → r ≤ p .height → sumBelow r (rowSad p a q b) ≤ r * (p .width * most)
   rows-most r h =
       sum-most (p .width * most) r (rowSad p a q b)
       (λ y y<. sum-most most (p .width) (λ (x : ℕ). apart (sampleAt p a y x) (sampleAt q b y x))
@@ -76,7 +76,7 @@ module _ (word : Word) (depth : ℕ) (frames : Strip) (fine : pairFault word dep
       mean-most most 64 (blockSum f s y x) (omega arith)
       (omega (arith, sum-most (blockSide * most) blockSide (λ (j : ℕ). sumBelow blockSide (blockSample f s y x j)) (λ j j<. sum-most most blockSide (blockSample f s y x j) (λ i i<. h j i j< i<))))
 
-  blocks-most : (n : ℕ) → n ≤ p .height / blockSide → sumBelow n (blocksDifference p a q b) ≤ n * (blocksAcross p * most)
+  pub blocks-most : (n : ℕ) → n ≤ p .height / blockSide → sumBelow n (blocksDifference p a q b) ≤ n * (blocksAcross p * most)
   blocks-most n h =
       sum-most (blocksAcross p * most) n (blocksDifference p a q b)
       (λ y y<. sum-most most (blocksAcross p) (blockDifference p a q b y)

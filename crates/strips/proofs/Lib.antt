@@ -7,4 +7,5 @@ pub mod RoomLaws
 pub mod Level
 pub mod Frames
 pub mod Cut
+pub mod Promised
 pub mod Unique

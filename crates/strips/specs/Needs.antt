@@ -13,6 +13,7 @@ pub record Sound (word : Word) (c : Carry) : Type 0 where
   pub depth-fits : wordFault word (c .depth) ≡ 0
   pub width-some : 0 < c .width
   pub width-most : c .width ≤ maxSide
+  pub height-some : 0 < c .height
   pub height-most : c .height ≤ maxSide
   pub come : c .rows ≤ c .height
   pub difference : c .difference ≤ totalsMost c

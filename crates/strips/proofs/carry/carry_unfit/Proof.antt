@@ -22,7 +22,7 @@ sides c = let k = c .before .before in rw (← k .before .bad-side .ensures, ←
 
 totals-past-requires : tie.Need-totals-past-requires
 totals-past-requires c κs =
-    let f = sides-fit (c .before .before .before .before .args .c) (sides c) in (omega (arith, f .1, f .2), f .0 .1)
+    let f = sides-fit (c .before .before .before .before .args .c) (sides c) in (omega (arith, f .1 .1, f .2), f .0 .1)
 
 returns-2 : tie.Need-returns-2
 returns-2 c = c .totals-past .ensures ∙ unfit-is (c .before .before .before .before .before .args .c) (sides (c .before))
