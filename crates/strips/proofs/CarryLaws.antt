@@ -1,15 +1,14 @@
 -- When a carry is unfit, and what one that is not keeps to. Assumes nothing.
-use mathlib.Core.Bool.{Bool, true, false, not, _||_, _&&_, cond}
+use mathlib.Core.Bool.{Bool, true, false, not, _||_, _&&_}
 use mathlib.Core.List.{List}
-use mathlib.Core.Path.{_≡_, refl, sym, ap, _∙_}
+use mathlib.Core.Path.{_≡_, refl, ap}
 use Prim.Native.Nat.{ℕ, _-_, _*_, _/_, _≤_, _<_, _^_}
 use native.Mathlib.Nat.{mul-assoc, mul-le-mul}
 use native.Mathlib.Omega.{arith}
-use borrow.Author.Tests.{eq-eqb, ne-eqb, eqb-true, ltb-false, le-ltb, not-false}
+use borrow.Author.Tests.{eq-eqb, ne-eqb, eqb-true, ltb-false, not-false}
 use lib.Dec.{ltb, eqb}
 use lib.ListN.{length}
-use Rattle.answer.specs.Refusal.{refusal}
-use Rattle.answer.proofs.Laws.{or-no, passed, test-given, test-passed}
+use Rattle.answer.proofs.Laws.{or-no, passed, test-passed}
 use Rattle.plane.specs.Blocks.{blockSide}
 use Rattle.plane.specs.Planes.{Word, byte, deep, suits, badSide, maxSide, depthFault, wordFault}
 use Rattle.plane.proofs.PlaneLaws.{good-side, total-fits}

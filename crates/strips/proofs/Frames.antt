@@ -1,14 +1,12 @@
 -- The totals of the first rows of two frames that no measure refuses, and the carry that has them: it is never unfit. Assumes nothing.
 use mathlib.Core.Bool.{Bool, true, false, _||_, _&&_}
 use mathlib.Core.List.{List}
-use mathlib.Core.Path.{_≡_, refl, sym, ap, _∙_}
+use mathlib.Core.Path.{_≡_, refl}
 use Prim.Native.Nat.{ℕ, _+_, _-_, _*_, _/_, _≤_, _<_, _^_}
 use native.Mathlib.Nat.{mul-assoc, mul-le-mul}
 use native.Mathlib.Omega.{arith}
 use borrow.Author.Tests.{le-ltb}
-use lib.Dec.{ltb}
 use lib.ListN.{length}
-use lib.Pow.{pow-pos}
 use Rattle.importance.specs.Importance.{mean, blockSum, blockDifference, blocksDifference}
 use Rattle.plane.specs.Blocks.{blockSide, blocksAcross, blockSample}
 use Rattle.plane.specs.Planes.{Word, byte, deep, suits, maxSide, sampleAt, pairFault}

@@ -1,14 +1,14 @@
 -- The refusals of strips by their shapes, in order, and what strips keep to that are not refused. Assumes nothing.
-use mathlib.Core.Bool.{Bool, true, false, not, _||_, cond}
+use mathlib.Core.Bool.{Bool, true, false, not, _||_}
 use mathlib.Core.List.{List}
 use mathlib.Core.Path.{_≡_, refl, sym, ap, _∙_}
-use Prim.Native.Nat.{ℕ, _+_, _-_, _*_, _≤_, _<_}
-use native.Mathlib.Decide.{decLt, ℕ-discrete}
+use Prim.Native.Nat.{ℕ, _+_, _-_, _≤_, _<_}
+use native.Mathlib.Decide.{decLt}
 use native.Mathlib.Omega.{arith}
 use borrow.Author.Tests.{lt-ltb, le-ltb, ltb-false, eq-eqb, ne-eqb, eqb-true, not-false}
 use lib.Dec.{ltb, eqb}
 use lib.ListN.{length}
-use Rattle.answer.specs.Refusal.{refusal, _orElse_}
+use Rattle.answer.specs.Refusal.{refusal}
 use Rattle.answer.proofs.Laws.{or-no, or-none, or-both, or-given, or-later, passed, test-first, test-later, test-given, test-passed}
 use Rattle.plane.specs.Planes.{Word, badSide, depthFault, planeFault, sizesDiffer, sizesFault, shapesFault, wordFault}
 use Rattle.plane.specs.declared.Plane.{Plane}

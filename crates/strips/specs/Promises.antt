@@ -1,7 +1,6 @@
 -- What holds of every strip that is accepted, whatever the carry says and whatever the room holds. Proved in proofs/Promised.antt.
 use mathlib.Core.Path.{_≡_}
 use Prim.Native.Nat.{ℕ, _+_, _*_, _/_, _≤_, _<_}
-use mathlib.Core.List.{List}
 use lib.ListN.{length, getD}
 use Rattle.plane.specs.Blocks.{blockSide}
 use Rattle.plane.specs.Planes.{Word, depthFault}
