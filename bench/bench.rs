@@ -6,6 +6,7 @@ mod logs;
 #[allow(dead_code)] // the oracle wants more of them
 #[path = "../oracle/src/sizes.rs"]
 mod sizes;
+mod strips;
 
 use std::hint::black_box;
 use std::sync::Arc;
@@ -286,6 +287,7 @@ fn main() {
     #[cfg(before)]
     before::transform();
     step();
+    strips::all();
     logs::all();
     #[cfg(before)]
     before::same();

@@ -4,7 +4,7 @@ use std::fmt::Debug;
 
 use v_frame::pixel::Pixel;
 
-use crate::sizes::{NUMBERS, SCORES};
+use crate::sizes::{CARRY, NUMBERS, SCORES};
 
 /// The bytes of a record of a log.
 pub const RECORD: usize = 47;
@@ -25,6 +25,10 @@ type Importance<T> = unsafe extern "C" fn(depth: u32, a: *const T, a_len: usize,
 type IntraCosts<T> = unsafe extern "C" fn(depth: u32, a: *const T, a_len: usize, w: usize, h: usize, s: usize, o: usize,
     work: *mut T, work_len: usize, w2: usize, h2: usize, s2: usize, o2: usize, costs: *mut u32, len: usize) -> i64;
 #[rustfmt::skip]
+type StripsAdd<T> = unsafe extern "C" fn(carry: *mut u64, carry_len: usize, a: *const T, a_len: usize, w: usize, h: usize, s: usize,
+    o: usize, b: *const T, b_len: usize, w2: usize, h2: usize, s2: usize, o2: usize, room: *mut T, room_len: usize,
+    costs: *mut u32, len: usize) -> i64;
+#[rustfmt::skip]
 type Reduce<T> = unsafe extern "C" fn(depth: u32, factor: usize, samples: *const T, samples_len: usize, w: usize, h: usize,
     s: usize, o: usize, reduced: *mut T, reduced_len: usize, w2: usize, h2: usize, s2: usize, o2: usize) -> i64;
 
@@ -33,9 +37,11 @@ pub trait Sample: Pixel + PartialEq + Debug {
     const DEPTH: u32;
     const SAID: &'static str;
     const DIFFERENCE: Difference<Self>;
+    const IMPORTANCE_TOTAL: Difference<Self>;
     const IMPORTANCE: Importance<Self>;
     const INTRA_COSTS: IntraCosts<Self>;
     const REDUCE: Reduce<Self>;
+    const STRIPS_ADD: StripsAdd<Self>;
     /// The high bits of a word, as many as the depth says.
     fn of(word: u64) -> Self;
 }
@@ -44,9 +50,11 @@ impl Sample for u8 {
     const DEPTH: u32 = 8;
     const SAID: &'static str = "";
     const DIFFERENCE: Difference<u8> = brine_plane_difference;
+    const IMPORTANCE_TOTAL: Difference<u8> = brine_importance_total;
     const IMPORTANCE: Importance<u8> = brine_importance;
     const INTRA_COSTS: IntraCosts<u8> = brine_intra_costs;
     const REDUCE: Reduce<u8> = brine_reduce;
+    const STRIPS_ADD: StripsAdd<u8> = brine_strips_add;
     fn of(word: u64) -> u8 {
         (word >> 56) as u8
     }
@@ -56,9 +64,11 @@ impl Sample for u16 {
     const DEPTH: u32 = 12;
     const SAID: &'static str = ", 12 bits in 16";
     const DIFFERENCE: Difference<u16> = brine_plane_difference16;
+    const IMPORTANCE_TOTAL: Difference<u16> = brine_importance_total16;
     const IMPORTANCE: Importance<u16> = brine_importance16;
     const INTRA_COSTS: IntraCosts<u16> = brine_intra_costs16;
     const REDUCE: Reduce<u16> = brine_reduce16;
+    const STRIPS_ADD: StripsAdd<u16> = brine_strips_add16;
     fn of(word: u64) -> u16 {
         (word >> 52) as u16
     }
@@ -70,6 +80,8 @@ unsafe extern "C" {
         reduced: *mut u8, reduced_len: usize, w2: usize, h2: usize, s2: usize, o2: usize) -> i64;
     fn brine_plane_difference(depth: u32, a: *const u8, a_len: usize, w: usize, h: usize, s: usize, o: usize,
         b: *const u8, b_len: usize, w2: usize, h2: usize, s2: usize, o2: usize) -> i64;
+    fn brine_importance_total(depth: u32, a: *const u8, a_len: usize, w: usize, h: usize, s: usize, o: usize,
+        b: *const u8, b_len: usize, w2: usize, h2: usize, s2: usize, o2: usize) -> i64;
     fn brine_importance(depth: u32, a: *const u8, a_len: usize, w: usize, h: usize, s: usize, o: usize,
         b: *const u8, b_len: usize, w2: usize, h2: usize, s2: usize, o2: usize, importance: *mut c_double) -> i64;
     fn brine_intra_costs(depth: u32, a: *const u8, a_len: usize, w: usize, h: usize, s: usize, o: usize,
@@ -78,10 +90,20 @@ unsafe extern "C" {
         reduced: *mut u16, reduced_len: usize, w2: usize, h2: usize, s2: usize, o2: usize) -> i64;
     fn brine_plane_difference16(depth: u32, a: *const u16, a_len: usize, w: usize, h: usize, s: usize, o: usize,
         b: *const u16, b_len: usize, w2: usize, h2: usize, s2: usize, o2: usize) -> i64;
+    fn brine_importance_total16(depth: u32, a: *const u16, a_len: usize, w: usize, h: usize, s: usize, o: usize,
+        b: *const u16, b_len: usize, w2: usize, h2: usize, s2: usize, o2: usize) -> i64;
     fn brine_importance16(depth: u32, a: *const u16, a_len: usize, w: usize, h: usize, s: usize, o: usize,
         b: *const u16, b_len: usize, w2: usize, h2: usize, s2: usize, o2: usize, importance: *mut c_double) -> i64;
     fn brine_intra_costs16(depth: u32, a: *const u16, a_len: usize, w: usize, h: usize, s: usize, o: usize,
         work: *mut u16, work_len: usize, w2: usize, h2: usize, s2: usize, o2: usize, costs: *mut u32, len: usize) -> i64;
+    fn brine_strips_add(carry: *mut u64, carry_len: usize, a: *const u8, a_len: usize, w: usize, h: usize, s: usize, o: usize,
+        b: *const u8, b_len: usize, w2: usize, h2: usize, s2: usize, o2: usize, room: *mut u8, room_len: usize,
+        costs: *mut u32, len: usize) -> i64;
+    fn brine_strips_add16(carry: *mut u64, carry_len: usize, a: *const u16, a_len: usize, w: usize, h: usize, s: usize, o: usize,
+        b: *const u16, b_len: usize, w2: usize, h2: usize, s2: usize, o2: usize, room: *mut u16, room_len: usize,
+        costs: *mut u32, len: usize) -> i64;
+    fn brine_strips_start(depth: u32, width: usize, height: usize, carry: *mut u64, carry_len: usize) -> i64;
+    fn brine_strips_end(carry: *const u64, carry_len: usize, difference: *mut u64, importance_total: *mut u64) -> i64;
     fn brine_hadamard8x8(list: *mut i32, len: usize) -> i64;
     fn brine_detector_fresh(width: usize, height: usize, depth: u32, lookahead: usize, mode: u32, min: u64, max: u64,
         numbers: *mut u64, numbers_len: usize, scores: *mut c_double, scores_len: usize) -> i64;
@@ -112,6 +134,14 @@ pub fn difference<T: Sample>(a: &Lent<T>, b: &Lent<T>) -> i64 {
     }
 }
 
+pub fn importance_total<T: Sample>(a: &Lent<T>, b: &Lent<T>) -> i64 {
+    // SAFETY: as above.
+    unsafe {
+        T::IMPORTANCE_TOTAL(T::DEPTH, a.samples.as_ptr(), a.samples.len(), a.width, a.height, a.width, 0, b.samples.as_ptr(),
+            b.samples.len(), b.width, b.height, b.width, 0)
+    }
+}
+
 pub fn importance<T: Sample>(a: &Lent<T>, b: &Lent<T>) -> f64 {
     let mut out = 0.0;
     // SAFETY: as above.
@@ -128,6 +158,36 @@ pub fn intra_costs<T: Sample>(a: &Lent<T>, work: &mut [T], costs: &mut [u32]) ->
     unsafe {
         T::INTRA_COSTS(T::DEPTH, a.samples.as_ptr(), a.samples.len(), a.width, a.height, a.width, 0, work.as_mut_ptr(),
             work.len(), a.width, a.height, a.width, 0, costs.as_mut_ptr(), costs.len())
+    }
+}
+
+/// What two frames that come in strips carry from one to the next.
+pub struct Carry([u64; CARRY]);
+
+impl Carry {
+    pub fn start<T: Sample>(width: usize, height: usize) -> Self {
+        let mut carry = Carry([0; CARRY]);
+        // SAFETY: as above.
+        assert_eq!(unsafe { brine_strips_start(T::DEPTH, width, height, carry.0.as_mut_ptr(), CARRY) }, 0);
+        carry
+    }
+
+    /// How many rows have come.
+    pub fn add<T: Sample>(&mut self, a: &Lent<T>, b: &Lent<T>, room: &mut [T], costs: &mut [u32]) -> i64 {
+        // SAFETY: as above.
+        unsafe {
+            T::STRIPS_ADD(self.0.as_mut_ptr(), CARRY, a.samples.as_ptr(), a.samples.len(), a.width, a.height, a.width, 0,
+                b.samples.as_ptr(), b.samples.len(), b.width, b.height, b.width, 0, room.as_mut_ptr(), room.len(),
+                costs.as_mut_ptr(), costs.len())
+        }
+    }
+
+    /// How many whole blocks there are, the difference and the importance total.
+    pub fn end(&self) -> (i64, u64, u64) {
+        let (mut difference, mut total) = (0, 0);
+        // SAFETY: as above.
+        let blocks = unsafe { brine_strips_end(self.0.as_ptr(), CARRY, &mut difference, &mut total) };
+        (blocks, difference, total)
     }
 }
 

@@ -1,6 +1,7 @@
 /* Reads cases with the crate's answers from the standard input, gives each to the library, and compares. */
 #include "beside_detector.h"
 #include "beside_log.h"
+#include "beside_strips.h"
 #include "brinepulley.h"
 #include "cases.h"
 #include "lend.h"
@@ -183,6 +184,9 @@ int main(void)
         case FILM: case FILM16: whole_film(); break;
         case LOG: log_read(); break;
         case APPEND: log_append(); break;
+        case STRIPS_START: strips_start(); break;
+        case STRIPS_ADD: case STRIPS_ADD16: strips_add(); break;
+        case STRIPS_END: strips_end(); break;
         default: stop("an unknown kind of record");
         }
     }
@@ -196,6 +200,9 @@ int main(void)
     print_measured(1);
     printf("compared: %" PRIu64 " log scans, %" PRIu64 " log reads of %" PRIu64 " records, %" PRIu64 " log appends\n", scans, reads,
            records_read, appends);
+    printf("compared: strips: %" PRIu64 " starts, %" PRIu64 " strips of %" PRIu64 " rows, %" PRIu64 " strips16 of %" PRIu64
+           " rows, %" PRIu64 " ends\n",
+           strips_started, strips_added[0], strips_rows[0], strips_added[1], strips_rows[1], strips_ended);
     print_failures();
     printf("%" PRIu64 " passed, %" PRIu64 " failed\n", passed, failed);
     return failed != 0;

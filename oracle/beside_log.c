@@ -10,13 +10,6 @@ uint64_t scans, reads, appends, records_read;
 /* What the place of the rest's length holds before a call: no rest is so long. */
 static const uint64_t before = 12345;
 
-/* A list of length 0 may be NULL: it is in half of the records. */
-static void *lend_list(enum slot slot, const void *from, size_t bytes, size_t align)
-{
-    void *lent = lend(slot, from, bytes, align);
-    return bytes == 0 && record / 2 % 2 == 0 ? NULL : lent;
-}
-
 /* 1 if the rest's length was written where it is due, and nowhere else. */
 static int torn_as(int64_t due, uint64_t torn) { return holds(OUT, due < 0 ? &before : &torn); }
 

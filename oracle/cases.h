@@ -6,7 +6,7 @@
 
 /* Behind the others those over samples of 16 bits. */
 enum kind { END, SCALE, PLANES, INTRA, THRESHOLDS, HADAMARD, SATD, FRESH, STATE, STEP, FILM, LOG, APPEND, REDUCE,
-    PLANES16, INTRA16, SATD16, FILM16, REDUCE16 };
+    STRIPS_START, STRIPS_ADD, STRIPS_END, PLANES16, INTRA16, SATD16, FILM16, REDUCE16, STRIPS_ADD16 };
 
 /* The number of the record at hand, and what is left of its words. */
 extern uint64_t record;

@@ -50,6 +50,12 @@ void *lend(enum slot slot, const void *from, size_t bytes, size_t align)
     return at;
 }
 
+void *lend_list(enum slot slot, const void *from, size_t bytes, size_t align)
+{
+    void *lent = lend(slot, from, bytes, align);
+    return bytes == 0 && step % 2 == 0 ? NULL : lent;
+}
+
 int guarded(enum slot slot)
 {
     const unsigned char *at = slots[slot].at;

@@ -1,5 +1,5 @@
 #!/bin/sh
-# Runs the comparison against the library with each misdeed of misdeeds.c and misdeeds16.c, which it must find.
+# Runs the comparison against the library with each misdeed of misdeeds.c, misdeeds16.c and misdeeds_strips.c, which it must find.
 #   misdeeds.sh ORACLE SEED COUNT RUN..     RUN is the command that runs the driver with the misdeeds linked in
 # A line for each: which comparisons fail, how many of each.
 set -eu
@@ -15,7 +15,8 @@ trap 'rm -f "$cases" "$cases.log"' EXIT
 found=0 missed=0
 echo "| Misdeed | Comparisons that fail |"
 echo "|---|---|"
-for name in $(sed -n 's/.*does("\([^"]*\)").*/\1/p' "$here/misdeeds.c" "$here/misdeeds16.c"); do
+for name in $(sed -n 's/.*does("\([^"]*\)").*/\1/p' "$here/misdeeds.c" "$here/misdeeds16.c" \
+    "$here/misdeeds_strips.c"); do
     MISDEED=$name "$@" <"$cases" >"$cases.log" 2>&1 || true
     case $(tail -n 1 "$cases.log") in
     *" passed, "*" failed") ;;

@@ -9,7 +9,7 @@ use crate::random::Random;
 use crate::reduce_cases::reduce_of;
 use crate::sample::{Sample, most};
 
-const LARGEST: u64 = 0xffff;
+pub const LARGEST: u64 = 0xffff;
 
 /// In every second plane, what is not visible: any words.
 pub fn pad<T: Sample>(r: &mut Random, l: &mut Lent<T>) {
@@ -24,7 +24,7 @@ pub fn pad<T: Sample>(r: &mut Random, l: &mut Lent<T>) {
 }
 
 /// One visible sample is just too large, or just not, or much too large: anywhere, in the last column or row, in the last place.
-fn exceed<T: Sample>(r: &mut Random, depth: u64, l: &mut Lent<T>) {
+pub fn exceed<T: Sample>(r: &mut Random, depth: u64, l: &mut Lent<T>) {
     let (column, row) = (r.below(l.width), r.below(l.height));
     let (right, bottom) = (l.width - 1, l.height - 1);
     let (x, y) = r.of(&[(column, row), (right, row), (column, bottom), (right, bottom)]);

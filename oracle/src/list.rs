@@ -16,6 +16,9 @@ use crate::reduce_cases;
 use crate::sample::{Sample, most};
 use crate::sizes::{COUNT, LAST, LENGTH, NUMBERS, OFFSET, ROOM, SCORES};
 use crate::state::{Call, State};
+use crate::strips_calls;
+use crate::strips_cases;
+use crate::strips_edges;
 
 /// How often each measure is drawn; some are refused. How many calls are drawn that the crate answers.
 const MEASURES: u64 = 150;
@@ -30,6 +33,9 @@ const REDUCTIONS: u64 = 25;
 /// The same of 16 bits.
 const DEEP_MEASURES: u64 = 75;
 const DEEP_CALLS: u64 = 600;
+/// How many films come in strips, and how many single calls of strips are drawn, of either word.
+const STRIP_FILMS: u64 = 20;
+const STRIP_CALLS: u64 = 40;
 
 fn sides(r: &mut Random) -> (u64, u64) {
     if r.once_in(2) {
@@ -195,6 +201,8 @@ pub fn all(desk: &mut Desk, r: &mut Random) {
     logs(desk, r);
     reductions::<u8>(desk, r, REDUCTIONS);
     deep(desk, r);
+    strips::<u8>(desk, r);
+    strips::<u16>(desk, r);
 }
 
 /// The logs come behind the detector: the lines above are the same with them and without.
@@ -230,7 +238,7 @@ fn reductions<T: Sample>(desk: &mut Desk, r: &mut Random, count: u64) {
     }
 }
 
-/// Samples of 16 bits, and detectors of 10 and 12, come last.
+/// Samples of 16 bits, and detectors of 10 and 12, come behind them.
 fn deep(desk: &mut Desk, r: &mut Random) {
     deep_cases::edges(desk);
     edges::thresholds(desk);
@@ -247,4 +255,19 @@ fn deep(desk: &mut Desk, r: &mut Random) {
         detector_cases::run(desk, r, Depths::Deep);
     }
     reductions::<u16>(desk, r, REDUCTIONS);
+}
+
+/// Strips come last.
+fn strips<T: Sample>(desk: &mut Desk, r: &mut Random) {
+    strips_edges::all::<T>(desk, r);
+    for _ in 0..STRIP_FILMS {
+        let sides = (r.from_to(1, 18), r.from_to(1, 20));
+        strips_cases::film::<T>(desk, r, sides);
+    }
+    for _ in 0..STRIP_CALLS {
+        let sides = (r.from_to(1, 18), r.from_to(1, 20));
+        strips_calls::start(desk, r);
+        strips_calls::add::<T>(desk, r, sides);
+        strips_calls::end(desk, r, sides);
+    }
 }

@@ -35,6 +35,10 @@ mod sizes;
 mod state;
 mod state_cases;
 mod stream;
+mod strips_calls;
+mod strips_cases;
+mod strips_edges;
+mod strips_reading;
 mod tally;
 mod values;
 mod words;
@@ -85,6 +89,8 @@ fn main() {
     reductions::<u8>(&mut desk, &mut r, count / 5 + 20);
     let mut deep_tally = Tally::default();
     deep(&mut Desk { out: &mut out, tally: &mut deep_tally }, &mut r, count);
+    strips::<u8>(&mut Desk { out: &mut out, tally: &mut tally }, &mut r, count);
+    strips::<u16>(&mut Desk { out: &mut out, tally: &mut deep_tally }, &mut r, count);
     finish(&mut out, seed, &[("8 bits", &tally), ("10 and 12 bits", &deep_tally)]);
 }
 
@@ -113,7 +119,7 @@ fn reductions<T: Sample>(desk: &mut Desk, r: &mut Random, count: u64) {
     }
 }
 
-/// Samples of 16 bits, and detectors of 10 and 12, come last: as many cases as of 8.
+/// Samples of 16 bits, and detectors of 10 and 12, come behind these: as many cases as of 8.
 fn deep(desk: &mut Desk, r: &mut Random, count: u64) {
     deep_cases::edges(desk);
     edges::thresholds(desk);
@@ -133,6 +139,22 @@ fn deep(desk: &mut Desk, r: &mut Random, count: u64) {
         detector_cases::run(desk, r, Depths::Deep);
     }
     reductions::<u16>(desk, r, count / 5 + 20);
+}
+
+/// Strips come behind all of these, of either word.
+fn strips<T: Sample>(desk: &mut Desk, r: &mut Random, count: u64) {
+    strips_edges::all::<T>(desk, r);
+    strips_edges::large::<T>(desk);
+    for _ in 0..count / 20 + 20 {
+        let sides = strips_cases::sides(r);
+        strips_cases::film::<T>(desk, r, sides);
+        strips_calls::start(desk, r);
+        strips_calls::end(desk, r, sides);
+    }
+    for _ in 0..count / 5 + 20 {
+        let sides = strips_cases::sides(r);
+        strips_calls::add::<T>(desk, r, sides);
+    }
 }
 
 fn list(seed: &str) {

@@ -12,7 +12,7 @@ pub struct Lent<T> {
 }
 
 /// 5: "a depth other than 8, 10, 12, or one that doesn't suit the plane's word". 8 bits suit a byte, 10 and 12 two.
-fn suits<T>(depth: u64) -> bool {
+pub fn suits<T>(depth: u64) -> bool {
     match size_of::<T>() {
         1 => depth == 8,
         _ => depth == 10 || depth == 12,
@@ -44,7 +44,7 @@ impl<T: Sample> Lent<T> {
         if end > self.samples.len() as u128 { 2 } else { 0 }
     }
     /// 16: "a visible sample at or above 2 to the depth".
-    fn exceeds(&self, depth: u64) -> bool {
+    pub fn exceeds(&self, depth: u64) -> bool {
         let limit = 1 << depth;
         (0..self.height).any(|y| (0..self.width).any(|x| self.sample(x, y) >= limit))
     }

@@ -14,6 +14,11 @@ pub const ENTRIES: usize = 1280;
 pub const FIRST: usize = 1408;
 pub const SECOND: usize = 10112;
 const PLACES: usize = 18816;
+/// The room of strips has the last places of the second plane; the two totals that their end writes have those of the numbers.
+pub const HELD: usize = 18304;
+pub const HELD_PLACES: usize = PLACES - HELD;
+pub const DIFFERENCE: usize = 510;
+pub const TOTAL: usize = 511;
 
 /// A copy is looked for in the other plane, and among so many places before and behind, unless so many words can stay where
 /// they are.

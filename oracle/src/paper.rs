@@ -1,7 +1,9 @@
 //! The fixed list: the records of the stream as lines of text, for crates/replay to read. A line is what is given, the
 //! letter of a call, and what should stand in the memory after it. Every NaN is written as one.
 use crate::kind::Kind;
-use crate::memory::{COSTS, ENTRIES, FIRST, LIST, LISTS, Memory, QUOTIENT, SCORES, SECOND, STATE, TORN};
+use crate::memory::{
+    COSTS, DIFFERENCE, ENTRIES, FIRST, HELD, HELD_PLACES, LIST, LISTS, Memory, QUOTIENT, SCORES, SECOND, STATE, TORN, TOTAL,
+};
 use crate::sizes::{COUNT, NUMBERS, OFFSET, PAIRS, ROOM};
 use crate::words::{Reader, bits};
 
@@ -21,6 +23,7 @@ struct Word {
     costs: char,
     reduction: char,
     satd: char,
+    strips: char,
 }
 
 const BYTE: Word = Word {
@@ -32,6 +35,7 @@ const BYTE: Word = Word {
     costs: 'C',
     reduction: 'V',
     satd: 'B',
+    strips: 'X',
 };
 
 const DEEP: Word = Word {
@@ -43,6 +47,7 @@ const DEEP: Word = Word {
     costs: 'K',
     reduction: 'W',
     satd: 'Y',
+    strips: 'Z',
 };
 
 pub struct Paper {
@@ -79,6 +84,10 @@ impl Paper {
             Kind::Append => self.append(&mut r),
             Kind::Reduce => self.reduce(&mut r, &BYTE),
             Kind::Reduce16 => self.reduce(&mut r, &DEEP),
+            Kind::StripsStart => self.strips_start(&mut r),
+            Kind::StripsAdd => self.strips_add(&mut r, &BYTE),
+            Kind::StripsAdd16 => self.strips_add(&mut r, &DEEP),
+            Kind::StripsEnd => self.strips_end(&mut r),
             Kind::End | Kind::Film | Kind::Film16 => (),
         }
         assert!(matches!(kind, Kind::End | Kind::Film | Kind::Film16) || r.0.is_empty());
@@ -227,6 +236,39 @@ impl Paper {
         self.put(FIRST, &log);
         let numbers = [vec![log.len() as u64], used_number, floats, cut].concat();
         self.call('A', answer, &numbers, &[(FIRST, &after)]);
+    }
+
+    /// A carry stands where the numbers of a state do.
+    fn strips_start(&mut self, r: &mut Reader) {
+        let (sizes, carry) = (r.words(3), r.list());
+        let (answer, after) = (r.word(), r.words(carry.len()));
+        self.put(STATE, &carry);
+        self.call('[', answer, &[sizes, vec![carry.len() as u64]].concat(), &[(STATE, &after)]);
+    }
+
+    /// Behind the room's end there is nothing: what a plane of the other word left there is taken away.
+    fn strips_add(&mut self, r: &mut Reader, word: &Word) {
+        let (carry, mut room, costs) = (r.list(), (word.samples)(r), r.halves());
+        let lengths = [costs.len() as u64, room.len() as u64];
+        let numbers = [vec![carry.len() as u64], self.plane(FIRST, r, word), self.plane(SECOND, r, word), lengths.to_vec()].concat();
+        assert!(numbers[6] <= (HELD - SECOND) as u64, "a strip that the reader has no room for");
+        room.resize(HELD_PLACES, 0);
+        for (at, list) in [(STATE, &carry), (COSTS, &costs), (HELD, &room)] {
+            self.put(at, list);
+        }
+        let (answer, carry, room, costs) = (r.word(), r.list(), (word.samples)(r), r.halves());
+        self.call(word.strips, answer, &numbers, &[(STATE, &carry), (COSTS, &costs), (HELD, &room)]);
+    }
+
+    fn strips_end(&mut self, r: &mut Reader) {
+        let (carry, answer, mut totals) = (r.list(), r.word(), r.words(2));
+        for (at, list) in [(STATE, &carry[..]), (DIFFERENCE, &BEFORE), (TOTAL, &TORN_BEFORE)] {
+            self.put(at, list);
+        }
+        if (answer as i64) < 0 {
+            totals = [BEFORE, TORN_BEFORE].concat();
+        }
+        self.call(']', answer, &[carry.len() as u64], &[(DIFFERENCE, &totals[..1]), (TOTAL, &totals[1..])]);
     }
 
     /// The whole list. Its end says how many lines are above it, and their check.

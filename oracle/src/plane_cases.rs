@@ -19,7 +19,7 @@ use crate::values::same;
 
 type Scenes<T> = scenes::SceneChangeDetector<T>;
 
-fn side(r: &mut Random) -> u64 {
+pub fn side(r: &mut Random) -> u64 {
     match r.below(12) {
         0..=7 => r.from_to(1, 26),
         8..=10 => r.from_to(1, 9) * 8 - 1 + r.below(3),
@@ -28,7 +28,7 @@ fn side(r: &mut Random) -> u64 {
 }
 
 /// The value of each sample of a picture, by one of several tastes.
-fn picture<T: Sample>(r: &mut Random, depth: u64, size: usize) -> Vec<T> {
+pub fn picture<T: Sample>(r: &mut Random, depth: u64, size: usize) -> Vec<T> {
     let most = most(depth);
     let (taste, base, near) = (r.below(6), r.below(most + 1), r.from_to(28, 36));
     let sample = |_| match taste {
@@ -64,7 +64,7 @@ pub fn plane<T: Sample>(l: &Lent<T>) -> Plane<T> {
     Plane::over(l.samples.clone(), PlaneGeometry { width, height, stride, origin })
 }
 
-fn frame<T: Sample>(l: &Lent<T>, depth: u64) -> Arc<Frame<T>> {
+pub fn frame<T: Sample>(l: &Lent<T>, depth: u64) -> Arc<Frame<T>> {
     Arc::new(Frame::deep(plane(l), depth as u8, Fed::default()))
 }
 
@@ -172,7 +172,7 @@ fn crate_difference<T: Sample>(desk: &mut Desk, depth: u64, a: &Lent<T>, b: &Len
 }
 
 /// The crate gives the quotient alone; the total is the whole number that has it.
-fn crate_importance<T: Sample>(desk: &mut Desk, depth: u64, a: &Lent<T>, b: &Lent<T>) -> (u64, f64) {
+pub fn crate_importance<T: Sample>(desk: &mut Desk, depth: u64, a: &Lent<T>, b: &Lent<T>) -> (u64, f64) {
     let importance = estimate_importance_block_difference(&frame(b, depth), &frame(a, depth));
     let total = if a.blocks() == 0 { 0 } else { (importance * a.blocks() as f64).round() as u64 };
     if !same(read::quotient(total, a.blocks()), importance) || total != read::importance_total(a, b) {
@@ -199,7 +199,7 @@ pub fn intra<T: Sample>(desk: &mut Desk, r: &mut Random) {
 
 /// A depth above the sample's bits does not fit it: there the crate's text is undefined, and it cannot be asked. Only a mutant of
 /// the reading wants to.
-fn within<T>(depth: u64) -> u64 {
+pub fn within<T>(depth: u64) -> u64 {
     depth.min(8 * size_of::<T>() as u64)
 }
 

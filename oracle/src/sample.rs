@@ -14,6 +14,7 @@ pub struct Kinds {
     pub satd: Kind,
     pub film: Kind,
     pub reduce: Kind,
+    pub strips: Kind,
 }
 
 pub trait Sample: Pixel + Debug + PartialEq {
@@ -42,8 +43,14 @@ pub trait Sample: Pixel + Debug + PartialEq {
 impl Sample for u8 {
     const DEPTHS: &'static [u64] = &[8];
     const ODD: &'static [u64] = &[0, 7, 9, 10, 12, 16, 1 << 31, u32::MAX as u64];
-    const KINDS: Kinds =
-        Kinds { planes: Kind::Planes, intra: Kind::Intra, satd: Kind::Satd, film: Kind::Film, reduce: Kind::Reduce };
+    const KINDS: Kinds = Kinds {
+        planes: Kind::Planes,
+        intra: Kind::Intra,
+        satd: Kind::Satd,
+        film: Kind::Film,
+        reduce: Kind::Reduce,
+        strips: Kind::StripsAdd,
+    };
     const IS_DEEP: bool = false;
 
     fn of(n: u64) -> u8 {
@@ -58,8 +65,14 @@ impl Sample for u16 {
     const DEPTHS: &'static [u64] = &[10, 12];
     // One of these may be sound: then samples may be too large.
     const ODD: &'static [u64] = &[0, 8, 8, 9, 10, 11, 12, 13, 14, 16, 1 << 31, u32::MAX as u64];
-    const KINDS: Kinds =
-        Kinds { planes: Kind::Planes16, intra: Kind::Intra16, satd: Kind::Satd16, film: Kind::Film16, reduce: Kind::Reduce16 };
+    const KINDS: Kinds = Kinds {
+        planes: Kind::Planes16,
+        intra: Kind::Intra16,
+        satd: Kind::Satd16,
+        film: Kind::Film16,
+        reduce: Kind::Reduce16,
+        strips: Kind::StripsAdd16,
+    };
     const IS_DEEP: bool = true;
 
     fn of(n: u64) -> u16 {

@@ -1,4 +1,5 @@
-//! The sizes of a state and of a set, and the places of its numbers, as the C header has them: no number stands twice.
+//! The sizes of a state, of a set and of a carry, and the places of a state's numbers, as the C header has them: no number
+//! stands twice.
 //! BRINE_HEADER names the header for the compiler.
 
 const HEADER: &[u8] = include_bytes!(env!("BRINE_HEADER"));
@@ -11,6 +12,8 @@ pub const SCORE: usize = number(b"BRINE_SCORE_DOUBLES");
 pub const SCORES: usize = number(b"BRINE_SCORES");
 /// The most frames of a set.
 pub const SET_LIMIT: u64 = number(b"BRINE_SET_LIMIT") as u64;
+/// How many numbers are carried from one strip of two frames to the next.
+pub const CARRY: usize = number(b"BRINE_CARRY");
 
 /// Places of the numbers; the pair numbers begin at the last one.
 pub const OFFSET: usize = number(b"BRINE_OFFSET");

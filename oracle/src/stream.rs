@@ -37,6 +37,11 @@ impl Stream {
         self
     }
 
+    /// Words with their number before them.
+    pub fn list(&mut self, list: &[u64]) -> &mut Self {
+        self.word(list.len() as u64).words(list)
+    }
+
     pub fn real(&mut self, x: f64) -> &mut Self {
         self.word(x.to_bits())
     }

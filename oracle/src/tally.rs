@@ -21,6 +21,12 @@ pub struct Tally {
     pub read_measures: u64,
     /// Scans, reads and appends of a log, which the crate does not have.
     pub read_logs: u64,
+    /// Whole films that came in strips, beside the crate, and their strips; accepted calls of strips, which the reading answers.
+    pub strip_films: u64,
+    pub strips: u64,
+    pub strip_calls: u64,
+    /// Of each call of strips: two refusals that are tested one after the other, by their place there, and how often both apply.
+    pub neighbours: BTreeMap<(&'static str, usize), (u32, u32, u64)>,
     /// For each refusal: how many damaged calls the crate stopped on, ran through, or could not be given.
     pub refused: BTreeMap<u32, [u64; 3]>,
     pub different: u64,
@@ -35,6 +41,14 @@ pub enum Ran {
 impl Tally {
     pub fn refusal(&mut self, number: u32, ran: Ran) {
         self.refused.entry(number).or_default()[ran as usize] += 1;
+    }
+
+    /// The refusals of a call in their order, and which of them apply.
+    pub fn order(&mut self, call: &'static str, order: &[(u32, bool)]) {
+        for (at, both) in order.windows(2).enumerate() {
+            let count = self.neighbours.entry((call, at)).or_insert((both[0].0, both[1].0, 0));
+            count.2 += u64::from(both[0].1 && both[1].1);
+        }
     }
 
     /// A detector call that the crate answers.
@@ -77,8 +91,19 @@ impl Tally {
             "oracle: beside the crate's deque {} pair numbers were counted; {} calls fill an empty one, {} score an item twice",
             self.pairs, self.fills, self.repeats
         );
+        self.print_strips();
         for (number, [stopped, through, not]) in &self.refused {
             eprintln!("oracle: refusal {number:2}: the crate stopped {stopped}, ran {through}, was not asked {not}");
         }
+    }
+
+    fn print_strips(&self) {
+        eprintln!(
+            "oracle: {} films, measured whole by the crate, came in {} strips; the reading answered {} calls of strips",
+            self.strip_films, self.strips, self.strip_calls
+        );
+        let pairs = self.neighbours.iter().map(|((call, _), (first, next, count))| format!("{call} {first} and {next} {count}"));
+        let pairs: Vec<String> = pairs.collect();
+        eprintln!("oracle: strips: of two refusals that are tested one after the other both apply: {}", pairs.join(", "));
     }
 }

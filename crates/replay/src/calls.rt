@@ -1,6 +1,8 @@
-// The calls that the list makes, by their letters: on numbers, on lists of entries, on the detector; the others are of planes,
-// of bytes and of 16 bits, and of logs.
+// The calls that the list makes, by their letters: on numbers, on lists of entries, on the detector; the others are of planes
+// and of strips, of bytes and of 16 bits, and of logs.
+use crate::cut;
 use crate::deep;
+use crate::deep_cut;
 use crate::desk;
 use crate::desk::get;
 use crate::desk::half;
@@ -121,6 +123,8 @@ pub fn replay(letter: u8, desk: &mut [u64]) -> bool {
         b'P' | b'M' | b'D' | b'I' | b'B' | b'C' | b'T' | b'V' => planes::replay(letter, desk),
         b'Q' | b'O' | b'U' | b'J' | b'Y' | b'K' | b'W' => deep::replay(letter, desk),
         b'L' | b'R' | b'A' => logs::replay(letter, desk),
+        b'[' | b'X' | b']' => cut::replay(letter, desk),
+        b'Z' => deep_cut::replay(desk),
         b'H' | b'G' => transform(letter, desk),
         b'S' => scale(desk),
         b'E' => end(desk),

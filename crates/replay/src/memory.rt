@@ -6,6 +6,10 @@ use octets::float;
 // Where each kind begins, and the end. The answer that is due and the numbers that are given come first.
 pub const STATE: usize = 16;
 
+pub const DIFFERENCE: usize = 510;
+
+pub const TOTAL: usize = 511;
+
 pub const TORN: usize = 511;
 
 pub const SCORES: usize = 512;
@@ -21,6 +25,8 @@ pub const ENTRIES: usize = 1280;
 pub const FIRST: usize = 1408;
 
 pub const SECOND: usize = 10112;
+
+pub const HELD: usize = 18304;
 
 pub const END: usize = 18816;
 

@@ -89,6 +89,16 @@ pub fn numbers(list: &mut [u64], from: usize, len: usize) -> &mut [u64] {
     &mut list[from..from + len]
 }
 
+pub fn words(list: &[u64], from: usize, len: usize) -> &[u64] {
+    if list.len() < from {
+        return &list[..0];
+    }
+    if list.len() - from < len {
+        return &list[..0];
+    }
+    &list[from..from + len]
+}
+
 pub fn scores(list: &mut [f64], from: usize, len: usize) -> &mut [f64] {
     if list.len() < from {
         return &mut list[..0];

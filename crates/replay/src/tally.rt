@@ -32,7 +32,7 @@ fn put_number(n: u64) {
 }
 
 fn put_letter(letter: usize) {
-    put(parts::samples(b"-ABCDEFGHIJKLMNOPQRSTUVWXYZ-----", letter % LETTERS, 1));
+    put(parts::samples(b"-ABCDEFGHIJKLMNOPQRSTUVWXYZ[-]--", letter % LETTERS, 1));
 }
 
 // A failure is counted. Of the first ones the letter is written out, and how many lines are above.
