@@ -28,7 +28,7 @@ use Rattle.strips.specs.Carry.{carryBy, carryNumbers, blocksIn, isCarry,
 use Rattle.strips.specs.Cuts.{Shows, Cut, addsAfter, Accepted, AsWhole, StripsAsWhole}
 use Rattle.strips.specs.Needs.{held}
 use Rattle.strips.specs.Rows.{Strip, Held, roomLong, heldRows}
-use Rattle.strips.specs.Strips.{Kept, kept, startAfter, startFault, stripMost, tooManyRows, widthsDiffer, tooLittle, matchFault, shapeFault, addFault, addOf, addAfter, taken, endFault, endOf, totalsOf}
+use Rattle.strips.specs.Strips.{Kept, kept, startAfter, startFault, stripMost, tooManyRows, stripsDiffer, tooLittle, matchFault, shapeFault, addFault, addOf, addAfter, taken, endFault, endOf, totalsOf}
 use Rattle.strips.proofs.CarryLaws.{word-depth, fit-passed, sound}
 use Rattle.strips.proofs.Frames.{planes, samples-below, carryAt, carry-fits}
 use Rattle.strips.proofs.Level.{Level, Suits, Same, level-next, none-large}
@@ -68,14 +68,14 @@ module _ (word : Word) (depth : ℕ) (frames : Strip) (before : List ℕ)
       (list : blocksIn (at r) ≤ length costs) where
     -- it is accepted
     shape-passes : shapeFault (wordFault word depth) (at r) (s .first) (length (s .a)) (s .second) (length (s .b)) (length room) (length costs) ≡ 0
-    unfolding shapeFault matchFault widthsDiffer tooLittle tooManyRows sizesDiffer
+    unfolding shapeFault matchFault stripsDiffer tooLittle tooManyRows sizesDiffer
     shape-passes =
         let few : tooManyRows (at r) (s .first) ≡ false =
         rw (le-ltb stripMost (s .first .height) (shows .few), le-ltb (p .height) (r + s .first .height) within) refl in
         let few2 : tooManyRows (at r) (s .second) ≡ false =
         rw (le-ltb stripMost (s .second .height) (omega (arith, shows .few, shows .heights)), le-ltb (p .height) (r + s .second .height) (omega (arith, within, shows .heights))) refl in
         let widths : s .first .width ≡ s .second .width = shows .widths .0 ∙ sym (shows .widths .1) in
-        let match : widthsDiffer (at r) (s .first) (s .second) ≡ false =
+        let match : stripsDiffer (at r) (s .first) (s .second) ≡ false =
         rw (eq-eqb (s .first .width) (s .second .width) widths, eq-eqb (s .first .height) (s .second .height) (shows .heights), eq-eqb (s .first .width) (p .width) (shows .widths .0)) refl in
         let enough : tooLittle (at r) (length room) (length costs) ≡ false =
         rw (le-ltb (length costs) (blocksIn (at r)) list, le-ltb (length room) (roomLong (at r)) (here .enough)) refl in

@@ -6,10 +6,11 @@ use Prim.Native.Nat.{ℕ, _+_, _-_, _*_, _/_, _≤_, _<_, _^_}
 use native.Mathlib.Nat.{mul-assoc, mul-le-mul}
 use native.Mathlib.Omega.{arith}
 use borrow.Author.Tests.{le-ltb}
+use lib.Dec.{eqb}
 use lib.ListN.{length}
 use Rattle.importance.specs.Importance.{mean, blockSum, blockDifference, blocksDifference}
 use Rattle.plane.specs.Blocks.{blockSide, blocksAcross, blockSample}
-use Rattle.plane.specs.Planes.{Word, byte, deep, suits, maxSide, sampleAt, pairFault}
+use Rattle.plane.specs.Planes.{Word, maxSide, depthFault, sampleAt, pairFault}
 use Rattle.plane.specs.declared.Plane.{Plane}
 use Rattle.plane.proofs.PlaneLaws.{Pair, pair, side-passes}
 use Rattle.plane.proofs.SampleLaws.{measured, measured-below, sample-below}
@@ -28,7 +29,7 @@ pub fits-back : (c : Carry) → 0 < c .width → c .width ≤ maxSide → 0 < c 
 unfolding carryUnfit totalsPast
 fits-back c w w≤ h h≤ r d i =
     let totals : above c (totalsMost c) ≡ false = rw (le-ltb (totalsMost c) (c .difference) d, le-ltb (totalsMost c) (c .importance) i) refl in
-    rw (side-passes (c .width) w w≤, side-passes (c .height) h h≤, le-ltb (c .height) (c .rows) r) (silent (suits byte (c .depth) || suits deep (c .depth)) (above c (totalsMost c)) totals)
+    rw (side-passes (c .width) w w≤, side-passes (c .height) h h≤, le-ltb (c .height) (c .rows) r) (silent (eqb (depthFault (c .depth)) 0) (above c (totalsMost c)) totals)
   where
     silent : (a t : Bool) → t ≡ false → a && t ≡ false
     silent true t e = e
