@@ -12,21 +12,21 @@
  *       be divided, so that the reduced side would be 0
  *    2  a plane needs more samples than were lent; a list or a block has another length than it must have
  *    3  two planes differ in width or height; a plane to reduce into has other sides than the reduced ones
- *    4  the cost list is shorter than the number of blocks, or the room of strips than 16 rows
+ *    4  the cost list is shorter than the number of blocks, or the room of strips has fewer than 16 * width samples
  *    5  the depth is not 8, 10 or 12, or does not suit the plane's word: 8 goes with uint8_t, 10 and 12 with uint16_t
  *    6  a side of the resolution is outside 1 to 8,192, or the mode is not 0, 1 or 2; a factor is none of 1, 2, 4, 8, 16 and 32
  *    7  the frame number is 0, or 2^32 or more, or below the previous keyframe's, or not one above the last call's
  *    8  a set has more than BRINE_SET_LIMIT frames, or more than the last call's
  *    9  a set of one frame with a lookahead below 5, an offset of 0 and a mode that scores
  *   10  a list that is read has another length than it must have, or holds a number that it may not hold
- *   11  the lent places hold no state, or the carry of strips is none
+ *   11  the lent places hold no state, or no carry of strips
  *   12  a record of a log does not begin with its mark
  *   13  the cut of a record is above 1
  *   14  the number of a record is not above that of the record before it
  *   15  no room to write
  *   16  a visible sample is at or above 2 to the depth, which a sample of uint16_t can be
  *   17  a strip has more than 64 rows, or more than are left of the frame
- *   18  not all rows have come
+ *   18  strips were ended before all rows had come
  *
  * What is lent. A pointer is followed by its length, counted in elements. The pointer is aligned for its type. A list of
  * length 0 may be NULL. The places of single results, the `double *` ones, `torn` and the two of brine_strips_end, are never
@@ -174,8 +174,9 @@ int64_t brine_satd8x8_16(const uint16_t *first, size_t first_len, const uint16_t
  *   carry   BRINE_CARRY numbers: width, height, depth, the rows that have come, difference and importance total so far
  *   room    16 * width samples or more: the last eight rows of the first frame, and then those of the second
  *   costs   a cost for each whole block of 8 x 8 samples, in row order
- * This is the loop that the driver of such a sensor writes. `next_strips` is its own: it gives where the next rows of both
- * frames lie, and how many they are.
+ * This is the loop that the driver of such a sensor writes. It returns 0, or a refusal negated. `next_strips` is the driver's
+ * own: it gives where the next rows of both frames lie, and how many they are. It may give 0 rows, but must give a row in the
+ * end.
  *
  *     #include <brinepulley.h>
  *
@@ -214,11 +215,12 @@ int64_t brine_strips_start(uint32_t depth, size_t width, size_t height, uint64_t
  *   - in the carry the rows, the difference and the importance total, which rise;
  *   - row y of the first frame to room[(y % 8) * width] and on, row y of the second to room[(8 + y % 8) * width] and on;
  *   - once row 8 * k + 7 is there, the costs of row k of the second frame's blocks, from costs[k * (width / 8)] on.
- * The rest of the room and of the costs stays. Carry, room, costs and strips must not overlap. A strip of 0 rows writes
- * nothing; it may come at any time, after the last row too.
- * Rubbish in the room is no fault and no refusal. What stood there before the first row bears on nothing. What is written over
- * rows that have come bears on their row of blocks alone, and a sample of it at or above 2 to the depth has that row count
- * nothing: its importances are left out, and if the sample is in the second frame's half, its costs stay as they were.
+ * The rest of the room and of the costs stays. Carry, room and costs overlap neither each other nor a strip. A strip of 0 rows
+ * writes nothing; it may come at any time, after the last row too.
+ * Rubbish in the room is no fault and no refusal. What stood there before the first row bears on nothing. What a caller writes
+ * over rows of a row of blocks that is not finished bears on that row of blocks alone. If a sample of it is at or above 2 to the
+ * depth, that row adds nothing to the importance total; if such a sample is in the second frame's half, the row's costs stay as
+ * they were too.
  * Refusals:
  *   11, where carry_len is not BRINE_CARRY, or the carry's width or height is 0 or above 8,192, or its rows are above its
  *       height, or, with a depth of 8, 10 or 12, a total is above rows * width * the largest sample of that depth;

@@ -26,6 +26,8 @@ int64_t __wrap_brine_strips_start(START)
 /* The place of the costs behind those of the whole rows of blocks that have come. */
 static size_t next_cost(const uint64_t *carry) { return carry[ROWS] / 8 * (carry[WIDTH] / 8); }
 
+static size_t blocks(const uint64_t *carry) { return carry[WIDTH] / 8 * (carry[HEIGHT] / 8); }
+
 /* The room's place of the second frame's next row. */
 static size_t next_row(const uint64_t *carry) { return (8 + carry[ROWS] % 8) * carry[WIDTH]; }
 
@@ -36,7 +38,7 @@ int64_t __wrap_brine_strips_add(STRIPS(uint8_t))
     if (does("strips-write-the-first")) spoil(a, a_len);
     if (does("strips-write-the-second")) spoil(b, b_len);
     if (does("strips-change-the-depth") && r >= 0) carry[DEPTH] ^= 1;
-    if (does("strips-swap-the-totals") && r >= 0) carry[TOTAL]++, carry[DIFFERENCE]--;
+    if (does("strips-shift-the-totals") && r >= 0) carry[TOTAL]++, carry[DIFFERENCE]--;
     if (does("strips-lose-a-row") && r > 0) carry[ROWS]--;
     if (does("strips-carry-when-refused") && r < 0) spoil(carry, carry_len * sizeof *carry);
     if (does("strips-room-when-refused") && r < 0) spoil(room, room_len);
@@ -44,7 +46,7 @@ int64_t __wrap_brine_strips_add(STRIPS(uint8_t))
     if (does("strips-room-of-the-next-row") && r >= 0) room[next_row(carry)] ^= 1;
     if (does("strips-room-past-the-rows") && r >= 0 && room_len > 16 * width) room[16 * width] ^= 1;
     if (does("strips-next-costs") && r >= 0 && next_cost(carry) < costs_len) costs[next_cost(carry)] ^= 1;
-    if (does("strips-costs-past-the-blocks") && r >= 0) spoil(costs, costs_len * sizeof *costs);
+    if (does("strips-costs-past-the-blocks") && r >= 0 && costs_len > blocks(carry)) spoil(costs, costs_len * sizeof *costs);
     return r;
 }
 
@@ -55,7 +57,7 @@ int64_t __wrap_brine_strips_add16(STRIPS(uint16_t))
     if (does("strips16-write-the-first")) spoil(a, a_len * sizeof *a);
     if (does("strips16-write-the-second")) spoil(b, b_len * sizeof *b);
     if (does("strips16-change-the-depth") && r >= 0) carry[DEPTH] ^= 6;
-    if (does("strips16-swap-the-totals") && r >= 0) carry[TOTAL]++, carry[DIFFERENCE]--;
+    if (does("strips16-shift-the-totals") && r >= 0) carry[TOTAL]++, carry[DIFFERENCE]--;
     if (does("strips16-lose-a-row") && r > 0) carry[ROWS]--;
     if (does("strips16-carry-when-refused") && r < 0) spoil(carry, carry_len * sizeof *carry);
     if (does("strips16-carry-when-16") && r == -16) carry[ROWS] += height;
@@ -65,7 +67,7 @@ int64_t __wrap_brine_strips_add16(STRIPS(uint16_t))
     if (does("strips16-room-of-the-next-row") && r >= 0) room[next_row(carry)] ^= 0x100;
     if (does("strips16-room-past-the-rows") && r >= 0 && room_len > 16 * width) room[16 * width] ^= 0x100;
     if (does("strips16-next-costs") && r >= 0 && next_cost(carry) < costs_len) costs[next_cost(carry)] ^= 1;
-    if (does("strips16-costs-past-the-blocks") && r >= 0) spoil(costs, costs_len * sizeof *costs);
+    if (does("strips16-costs-past-the-blocks") && r >= 0 && costs_len > blocks(carry)) spoil(costs, costs_len * sizeof *costs);
     return r;
 }
 

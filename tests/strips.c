@@ -64,10 +64,15 @@ static void ends_as(struct strip a, struct strip b)
     EXPECT(blocks == 0 || memcmp(costs, driver.costs.at, (size_t)blocks * sizeof costs[0]) == 0);
 }
 
-/* How many rows come next: any number that there is, mostly few, and now and then none. */
+static size_t least(size_t a, size_t b)
+{
+    return a < b ? a : b;
+}
+
+/* How many rows come next: any number that may come, mostly few, and now and then none. */
 static size_t draw_rows(size_t left)
 {
-    const size_t most = pick(3) == 0 ? left : left < 12 ? left : 12;
+    const size_t most = least(left, pick(3) == 0 ? MOST_ROWS : 12);
     return pick(6) == 0 ? 0 : pick(most + 1);
 }
 
@@ -87,13 +92,13 @@ static bool film(uint32_t depth, size_t width, size_t height)
     return true;
 }
 
-/* The first that goes wrong is enough. */
+/* Most are low. The first that goes wrong is enough. */
 static void films(uint32_t depth)
 {
     bool well = true;
     for (int i = 0; i < 4000 && well; i++) {
         const size_t width = 1 + pick(MOST_WIDTH);
-        well = film(depth, width, 1 + pick(MOST_HEIGHT));
+        well = film(depth, width, 1 + pick(pick(4) == 0 ? MOST_HEIGHT : 41));
     }
 }
 
@@ -125,23 +130,29 @@ static void no_block(void)
         }
 }
 
-/* Every cut of a frame in two, and in strips of one length. */
+/* Frames come in strips of so many rows, behind a first one of another number. */
+static void cut_by(uint32_t depth, size_t height, size_t begin, size_t rows)
+{
+    const struct strip a = whole(0, 19, height), b = whole(1, 19, height);
+    draw_frames(depth, 19 * height);
+    driver_start(&driver, depth, 19, height);
+    hand_on(a, b, 0, begin);
+    for (size_t row = begin; row < height; row += rows)
+        hand_on(a, b, row, least(rows, height - row));
+    ends_as(a, b);
+}
+
+/* Every cut in two, strips of each length, and the largest strips behind one of each length: so 64, 64 and 13 rows. */
 static void every_cut(void)
 {
-    const size_t width = 19, height = MOST_HEIGHT;
-    const struct strip a = whole(0, width, height), b = whole(1, width, height);
-    for (uint32_t depth = 8; depth <= 12; depth += 2)
-        for (size_t cut = 0; cut <= height; cut++) {
-            draw_frames(depth, width * height);
-            driver_start(&driver, depth, width, height);
-            hand_on(a, b, 0, cut);
-            hand_on(a, b, cut, height - cut);
-            ends_as(a, b);
-            driver_start(&driver, depth, width, height);
-            for (size_t row = 0; row < height; row += cut + 1)
-                hand_on(a, b, row, cut + 1 < height - row ? cut + 1 : height - row);
-            ends_as(a, b);
+    for (uint32_t depth = 8; depth <= 12; depth += 2) {
+        for (size_t cut = 0; cut <= 61; cut++)
+            cut_by(depth, 61, cut, 61);
+        for (size_t rows = 1; rows <= MOST_ROWS; rows++) {
+            cut_by(depth, MOST_HEIGHT, rows, rows);
+            cut_by(depth, MOST_HEIGHT, rows, MOST_ROWS);
         }
+    }
 }
 
 /* Strips without rows at the start, in the middle of a row of blocks, between two, and after the last row. */
@@ -238,7 +249,7 @@ const struct test strip_tests[] = {
     {"strips: four thousand films of 8 bits", films_8},
     {"strips: four thousand films of 10 bits", films_10},
     {"strips: four thousand films of 12 bits", films_12},
-    {"strips: every cut in two, and strips of one length", every_cut},
+    {"strips: every cut in two, and strips of each length", every_cut},
     {"strips: no rows at the start, in the middle and at the end", no_rows},
     {"strips: no whole block", no_block},
     {"strips: by hand", by_hand},

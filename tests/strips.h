@@ -1,13 +1,13 @@
 /* What the tests of strips share: memory between walls, samples of either word, and a driver of a sensor that knows what the places
    that it keeps must hold after each call. */
-#ifndef STRIPS_H
-#define STRIPS_H
+#ifndef TEST_STRIPS_H
+#define TEST_STRIPS_H
 
 #include "brinepulley.h"
 #include "check.h"
 
-/* The largest frames of a driver, and how much longer than needed its room and its costs may be. */
-enum { MOST_WIDTH = 33, MOST_HEIGHT = 41, MOST_SPARE = 5 };
+/* The largest frames of a driver, the most rows of a strip, and how much longer than needed its room and its costs may be. */
+enum { MOST_WIDTH = 33, MOST_HEIGHT = 141, MOST_ROWS = 64, MOST_SPARE = 5 };
 enum {
     MOST_SAMPLES = MOST_WIDTH * MOST_HEIGHT,
     MOST_ROOM = 16 * MOST_WIDTH + MOST_SPARE,

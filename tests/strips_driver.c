@@ -145,7 +145,8 @@ void driver_start(struct driver *d, uint32_t depth, size_t width, size_t height)
     EXPECT(walled_holds(&d->carry, want));
 }
 
-/* Eight rows of blocks are held. A sample among them that is too large has the measures refuse: then they count nothing. */
+/* Eight rows are held, which is one row of blocks. A sample among them that is too large has the measures refuse: then they count
+   nothing. */
 static void want_blocks(struct driver *d, size_t row)
 {
     const size_t w = d->width, half = 8 * w * word_bytes(d->depth);

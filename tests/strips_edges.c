@@ -115,7 +115,7 @@ static void end_order(void)
 }
 
 /* Two frames of 20 × 24 in strips of twelve rows. After the first strip a value is put over a sample of row 8 to 11, which are in the
-   begun row of blocks, or of row 4 to 7, which are behind it and are written anew. */
+   begun row of blocks, or of row 4 to 7, whose row of blocks is finished, and which are written anew. */
 enum { WIDTH = 20, HEIGHT = 24, COLUMNS = WIDTH / 8, CUT = 12 };
 
 static uint16_t frames[2][WIDTH * HEIGHT];

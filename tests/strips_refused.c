@@ -168,7 +168,6 @@ static void refusals_of_strips(void)
     REFUSED(3, c.b.width--);
     REFUSED(3, c.a.width--);
     REFUSED(3, c.a.height--);
-    REFUSED(3, c.b.height = 0);
     REFUSED(3, c.a.width--, c.b.width--);
     REFUSED(3, c.carry[CARRY_WIDTH]--);
     REFUSED(4, c.costs = BLOCKS - 1);
@@ -185,7 +184,12 @@ static void refusals_without_rows(void)
     ACCEPTED(CAME, WITHOUT, c.a.stride = SIZE_MAX, c.b.origin = 0);
     REFUSED(11, WITHOUT, c.carry_len = 5);
     REFUSED(11, WITHOUT, c.carry[CARRY_ROWS] = HEIGHT + 1);
+    REFUSED(11, WITHOUT, c.carry[CARRY_WIDTH] = 0);
+    REFUSED(11, WITHOUT, c.carry[CARRY_HEIGHT] = 8193);
+    REFUSED(11, WITHOUT, c.carry[CARRY_DIFFERENCE] = (uint64_t)CAME * WIDTH * ((1u << c.depth) - 1) + 1);
+    REFUSED(11, WITHOUT, c.carry[CARRY_TOTAL] = (uint64_t)CAME * WIDTH * ((1u << c.depth) - 1) + 1);
     REFUSED(5, WITHOUT, c.carry[CARRY_DEPTH] = 9);
+    REFUSED(5, WITHOUT, c.carry[CARRY_DEPTH] = c.depth == 8 ? 10 : 8);
     REFUSED(1, WITHOUT, c.a.width = c.a.stride = 0);
     REFUSED(1, WITHOUT, c.b.stride = WIDTH - 1);
     REFUSED(1, WITHOUT, c.b.width = c.b.stride = 8193);
@@ -194,6 +198,17 @@ static void refusals_without_rows(void)
     REFUSED(4, WITHOUT, c.costs--);
     REFUSED(4, WITHOUT, c.room--);
     ACCEPTED(HEIGHT, WITHOUT, c.carry[CARRY_ROWS] = HEIGHT);
+}
+
+/* One strip has rows and the other has none: 1 and 2 of each come before 3. */
+static void refusals_of_one_without_rows(void)
+{
+    REFUSED(3, c.a.height = 0);
+    REFUSED(1, c.a.height = 0, c.b.stride = WIDTH - 1);
+    REFUSED(2, c.a.height = 0, c.b.length -= 4);
+    REFUSED(3, c.b.height = 0);
+    REFUSED(1, c.b.height = 0, c.b.stride = WIDTH - 1);
+    REFUSED(2, c.b.height = 0, c.a.length--);
 }
 
 /* One misdeed for each test, in the order of the tests. Any two of them apply together. */
@@ -252,6 +267,7 @@ const struct test strip_refused_tests[] = {
     {"strips: refusal 5", refusal_5},
     {"strips: refusals 1, 2, 3, 4", refusals_of_strips},
     {"strips: refusals of strips without rows", refusals_without_rows},
+    {"strips: refusals of one strip without rows", refusals_of_one_without_rows},
     {"strips: the order of any two refusals", order},
     {"strips: refusal 16", refusal_16},
     {0},

@@ -102,8 +102,7 @@ enum status gauge_next(struct gauge *gauge, struct pair *pair, bool *ended)
     if (gauge->mode == BRINE_MODE_STANDARD)
         answer = measure_standard(gauge, pair);
     if (answer < 0)
-        return say_refused(answer, "%s: %s", gauge->film->name,
-                           answer == -REFUSED_UNENDED ? "rows of a frame are missing" : "its frames cannot be measured");
+        return say_refused(answer, "%s: its frames cannot be measured", gauge->film->name);
     return gauge->mode == BRINE_MODE_STANDARD ? costs_next(gauge->costs, &pair->inter) : DONE;
 }
 

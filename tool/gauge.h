@@ -27,8 +27,8 @@ struct gauge {
     struct plane work;   /* the work plane of the intra costs */
     uint32_t *blocks;
     size_t block_count;
-    bool by_strips; /* then these take the place of the planes and the blocks */
-    struct strips strips;
+    bool by_strips;
+    struct strips strips; /* with by_strips, instead of the planes and the blocks */
 };
 
 /* Makes room and fetches the film's first frame. The sides must be ones that the library accepts. With strip rows above 0 frames

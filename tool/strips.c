@@ -47,8 +47,7 @@ static enum status refused(const struct strips *s, int64_t answer, const char *f
 {
     if (answer == -REFUSED_SAMPLE)
         return film_refused(s->film, fault, answer);
-    return say_refused(answer, "%s: %s", s->film->name,
-                       answer == -REFUSED_STRIP ? "a strip has more rows than may come" : "its strips cannot be measured");
+    return say_refused(answer, "%s: its strips cannot be measured", s->film->name);
 }
 
 /* Reads the frame to its end, also behind a strip that is refused. */

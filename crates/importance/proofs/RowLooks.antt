@@ -1,27 +1,27 @@
 -- Samples of two planes that are looked at a few rows at a time, while the planes are measured; and what is answered then. Assumes nothing.
-use mathlib.Core.Bool.{Bool, true, false, _||_, true≢false}
+use mathlib.Core.Bool.{Bool, true, false, _||_, cond, true≢false}
 use mathlib.Core.List.{List}
 use mathlib.Core.Path.{_≡_, refl, sym, ap, _∙_}
 use Prim.Native.Nat.{ℕ, _+_, _-_, _*_, _≤_, _<_, _^_}
 use native.Mathlib.Omega.{arith}
-use lib.Ieee.{Float}
+use borrow.Author.Tests.{eqb-true}
+use lib.Dec.{eqb}
 use lib.ListN.{length, getD}
 use Rattle.answer.specs.Answer.{Answer, gives, refused, answered, wholeAnswer}
 use Rattle.answer.specs.Refusal.{refusal}
 use Rattle.answer.specs.declared.Whole.{Whole}
 use Rattle.answer.specs.declared.Whole.the-variants as whole
 use Rattle.answer.proofs.Laws.{or-given, test-given, test-passed, answer-given, answer-refused}
-use Rattle.plane.specs.Blocks.{blockSide, blocksDown, blockCount}
+use Rattle.plane.specs.Blocks.{blockSide, blocksDown}
 use Rattle.plane.specs.Planes.{deep, rowsLarge, tooLarge, sizesFault, shapesFault, pairFault, pairAnswer}
 use Rattle.plane.specs.declared.Plane.{Plane}
 use Rattle.plane.proofs.PlaneLaws.{pair}
 use Rattle.plane.proofs.SampleLaws.{largeIn, rows-are, pair-fault-is}
 use Rattle.sums.specs.Any.{anyBelow}
-use Rattle.sums.specs.Quotient.{quotientOf}
 use Rattle.sums.specs.Sums.{sumBelow}
 use Rattle.sums.proofs.AnyLaws.{any-zero, any-or, any-cut}
 use Rattle.sums.proofs.SumLaws.{sum-none, sum-to}
-use Rattle.importance.specs.Importance.{blocksDifference, importanceTotal, importanceOf}
+use Rattle.importance.specs.Importance.{blocksDifference, importanceTotal}
 use Rattle.importance.proofs.BlockSums.{rows-next}
 
 -- whether an answer is a number, and which
@@ -115,21 +115,21 @@ module _ (depth : ℕ) (p : Plane) (a : List ℕ) (q : Plane) (b : List ℕ) whe
     pub shapes-passed : {A : Type 0} (v : A) (r : Answer A) → r ≡ looked v → r ≡ pairAnswer deep depth p a q b v
     shapes-passed v r d = d ∙ ap (λ (fault : ℕ). answered fault v) (pair-fault-is deep depth p a q b e)
 
-    -- on the quotient as on the total
-    module _ (r : Whole) (d : wholeAnswer r ≡ looked (importanceTotal p a q b)) where
-      pub quotient-refused : (n : ℕ) → r ≡ whole.Refused n → refused 16 ≡ importanceOf deep depth p a q b
-      unfolding answered
-      quotient-refused n is = shapes-passed _ _ (go (tooLarge depth p a || tooLarge depth q b) (sym (ap wholeAnswer is) ∙ d))
-        where
-          go : (t : Bool) → refused n ≡ answered (refusal 16 t) (importanceTotal p a q b) → refused 16 ≡ answered (refusal 16 t) (quotientOf (importanceTotal p a q b) (blockCount p))
-          go true e = refl
-          go false e = absurd (true≢false (sym (ap is-given e)))
+-- ---- and on the quotient as on the total: a refusal is handed on, and a number is the total
 
-      pub quotient-given : (n : ℕ) (x : Float) → r ≡ whole.Number n → x ≡ quotientOf n (blockCount p) → gives x ≡ importanceOf deep depth p a q b
-      unfolding answered
-      quotient-given n x is f = shapes-passed _ _ (ap gives f ∙ go (tooLarge depth p a || tooLarge depth q b) (sym (ap wholeAnswer is) ∙ d))
-        where
-          go : (t : Bool) → gives n ≡ answered (refusal 16 t) (importanceTotal p a q b)
-              → gives (quotientOf n (blockCount p)) ≡ answered (refusal 16 t) (quotientOf (importanceTotal p a q b) (blockCount p))
-          go true e = absurd (true≢false (ap is-given e))
-          go false e = ap (λ (n : ℕ). gives (quotientOf n (blockCount p))) (ap number e)
+module _ {A : Type 0} (fault total : ℕ) (v : A) (r : Whole) (e : wholeAnswer r ≡ answered fault total) where
+  pub handed-on : (n : ℕ) → r ≡ whole.Refused n → refused n ≡ answered fault v
+  unfolding answered
+  handed-on n is = by-case (eqb fault 0) (sym (ap wholeAnswer is) ∙ e)
+    where
+      by-case : (t : Bool) → refused n ≡ cond t (gives total) (refused fault) → refused n ≡ cond t (gives v) (refused fault)
+      by-case true d = absurd (true≢false (sym (ap is-given d)))
+      by-case false d = ap refused (ap number d)
+
+  pub given : (n : ℕ) → r ≡ whole.Number n → (fault ≡ 0) × (n ≡ total)
+  unfolding answered
+  given n is = by-case (eqb fault 0) (eqb-true fault 0) (sym (ap wholeAnswer is) ∙ e)
+    where
+      by-case : (t : Bool) → (t ≡ true → fault ≡ 0) → gives n ≡ cond t (gives total) (refused fault) → (fault ≡ 0) × (n ≡ total)
+      by-case true z d = (z refl, ap number d)
+      by-case false z d = absurd (true≢false (ap is-given d))

@@ -115,17 +115,16 @@ pub fn importance_total(depth: u64, p: Plane, a: &[u16], q: Plane, b: &[u16]) ->
     all_differences(depth, p, a, q, b)
 }
 
-// The importance of two planes: the total over the number of blocks, and with no block a NaN.
+// The importance of two planes: the total over the number of blocks, and with no block a NaN. It asks for the total as a caller does: so
+// the compiler has one place for the loops, and their stack is small.
 pub fn importance(depth: u64, p: Plane, a: &[u16], q: Plane, b: &[u16]) -> Real
     ensures { λ r. ⌜ realAnswer r ≡ importanceOf deep depth p (now (a .entry)) q (now (b .entry)) ⌝ }
 {
-    let fault = plane::deep::shapes_fault(depth, p, a.len(), q, b.len());
-    if fault != 0 {
-        return Real::Refused(fault);
+    match importance_total(depth, p, a, q, b) {
+        Whole::Refused(fault) => Real::Refused(fault),
+        Whole::Number(total) => {
+            let count = (p.height / BLOCK_SIDE) * (p.width / BLOCK_SIDE);
+            Real::Number(sums::quotient(total, count as u64))
+        }
     }
-    let Whole::Number(total) = all_differences(depth, p, a, q, b) else {
-        return Real::Refused(16);
-    };
-    let count = (p.height / BLOCK_SIDE) * (p.width / BLOCK_SIDE);
-    Real::Number(sums::quotient(total, count as u64))
 }

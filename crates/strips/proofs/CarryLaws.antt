@@ -1,15 +1,14 @@
 -- When a carry is unfit, and what one that is not keeps to. Assumes nothing.
-use mathlib.Core.Bool.{Bool, true, false, not, _||_, _&&_, cond}
+use mathlib.Core.Bool.{Bool, true, false, not, _||_, _&&_}
 use mathlib.Core.List.{List}
-use mathlib.Core.Path.{_≡_, refl, sym, ap, _∙_}
+use mathlib.Core.Path.{_≡_, refl, sym, ap}
 use Prim.Native.Nat.{ℕ, _-_, _*_, _/_, _≤_, _<_, _^_}
 use native.Mathlib.Nat.{mul-assoc, mul-le-mul}
 use native.Mathlib.Omega.{arith}
-use borrow.Author.Tests.{eq-eqb, ne-eqb, eqb-true, ltb-false, le-ltb, not-false}
+use borrow.Author.Tests.{eq-eqb, ne-eqb, eqb-true, ltb-false, not-false}
 use lib.Dec.{ltb, eqb}
 use lib.ListN.{length}
-use Rattle.answer.specs.Refusal.{refusal}
-use Rattle.answer.proofs.Laws.{or-no, passed, test-given, test-passed}
+use Rattle.answer.proofs.Laws.{or-no, passed, test-passed}
 use Rattle.plane.specs.Blocks.{blockSide}
 use Rattle.plane.specs.Planes.{Word, byte, deep, suits, badSide, maxSide, depthFault, wordFault}
 use Rattle.plane.proofs.PlaneLaws.{good-side, total-fits}
@@ -24,14 +23,27 @@ use Rattle.strips.specs.Needs.{Sound}
 abbrev pub above : Carry → ℕ → Bool
 above c limit = ltb limit (c .difference) || ltb limit (c .importance)
 
+-- the three depths
+pub eight : depthFault 8 ≡ 0
+unfolding depthFault
+eight = refl
+
+pub ten : depthFault 10 ≡ 0
+unfolding depthFault
+ten = refl
+
+pub twelve : depthFault 12 ≡ 0
+unfolding depthFault
+twelve = refl
+
 -- at each depth its own largest sample counts, and at none none
-pub past-at : (c : Carry) (depth most : ℕ) → c .depth ≡ depth → (suits byte depth || suits deep depth ≡ true) → 2 ^ depth - 1 ≡ most
+pub past-at : (c : Carry) (depth most : ℕ) → c .depth ≡ depth → depthFault depth ≡ 0 → 2 ^ depth - 1 ≡ most
     → above c (c .rows * c .width * most) ≡ totalsPast c
 unfolding totalsPast
 past-at c depth most e s m = rw (e, s, m) refl
 
 pub past-none : (c : Carry) → (c .depth ≡ 8 → ⊥) → (c .depth ≡ 10 → ⊥) → (c .depth ≡ 12 → ⊥) → false ≡ totalsPast c
-unfolding totalsPast
+unfolding totalsPast depthFault
 past-none c e f g = rw (ne-eqb (c .depth) 8 e, ne-eqb (c .depth) 10 f, ne-eqb (c .depth) 12 g) refl
 
 -- they are small: no product overflows
@@ -92,7 +104,7 @@ unfolding totalsPast
 sound word c e d =
     let f = fit c e in
     let t = or-no (ltb (totalsMost c) (c .difference)) (ltb (totalsMost c) (c .importance))
-    (limited (suits byte (c .depth) || suits deep (c .depth)) (above c (totalsMost c)) (one-of-three word (c .depth) (suited word (c .depth) d)) (f .totals)) in
+    (limited (eqb (depthFault (c .depth)) 0) (above c (totalsMost c)) (eq-eqb (depthFault (c .depth)) 0 (sym (word-depth word (c .depth) d))) (f .totals)) in
     record {
       depth-fits = d;
       width-some = f .width-some;

@@ -1,26 +1,22 @@
 -- Wherever two frames are cut into strips, the strips end where the whole planes do: the theorem of specs/Cuts.antt. Assumes nothing.
-use mathlib.Core.Bool.{Bool, true, false, not, _||_}
+use mathlib.Core.Bool.{true, false, _||_}
 use mathlib.Core.List.{List, [], _∷_}
 use mathlib.Core.Path.{_≡_, refl, sym, ap, subst, _∙_}
 use Prim.Native.Nat.{ℕ, zero, suc, _+_, _*_, _/_, _≤_, _<_}
-use native.Mathlib.Nat.{add-zero, add-suc}
-use native.Mathlib.Numerals.{add-one}
 use native.Mathlib.Omega.{arith}
 use borrow.Author.Tests.{le-ltb, eq-eqb, eqb-true}
-use lib.Dec.{ltb, eqb}
+use lib.Dec.{ltb}
 use lib.ListN.{length}
-use Rattle.answer.specs.Answer.{gives, answered}
-use Rattle.answer.specs.Refusal.{refusal, _orElse_}
+use Rattle.answer.specs.Answer.{gives}
 use Rattle.answer.proofs.Laws.{or-both, or-none, test-passed, answer-given, lent-written}
 use Rattle.importance.specs.Importance.{blocksDifference, importanceTotal}
 use Rattle.intra.specs.Costs.{intraFault, costAt}
 use Rattle.intra.specs.Fill.{flatSample}
 use Rattle.intra.proofs.CostLaws.{fine}
 use Rattle.plane.specs.Blocks.{blockSide, blocksAcross, blockCount}
-use Rattle.plane.specs.Planes.{Word, byte, deep, suits, badSide, sampleAt, sizesDiffer, planeFault, depthFault, wordFault, tooLarge, shapesFault, pairFault}
+use Rattle.plane.specs.Planes.{Word, suits, badSide, sampleAt, sizesDiffer, wordFault, tooLarge, shapesFault, pairFault}
 use Rattle.plane.specs.declared.Plane.{Plane}
 use Rattle.plane.proofs.PlaneLaws.{side-passes}
-use Rattle.plane.proofs.SampleLaws.{suited}
 use Rattle.sad.specs.Difference.{rowSad, planeSad}
 use Rattle.sums.specs.Sums.{sumBelow, apart}
 use Rattle.sums.specs.Written.{written}
@@ -28,16 +24,14 @@ use Rattle.sums.proofs.SumLaws.{sum-ext, sum-cut, sum-none}
 use Rattle.sums.proofs.PlaceLaws.{fronts-none}
 use Rattle.sums.proofs.WrittenLaws.{length-written, written-none}
 use Rattle.strips.specs.declared.carry.Carry.{Carry}
-use Rattle.strips.specs.Carry.{carryBy, carryNumbers, blocksIn, isCarry, carryFault, carryLong}
+use Rattle.strips.specs.Carry.{carryBy, carryNumbers, blocksIn, isCarry, carryLong}
 use Rattle.strips.specs.Cuts.{Shows, Cut, addsAfter, Accepted, AsWhole, StripsAsWhole}
-use Rattle.strips.specs.Needs.{Sound, Taken, held}
+use Rattle.strips.specs.Needs.{held}
 use Rattle.strips.specs.Rows.{Strip, Held, roomLong, heldRows}
-use Rattle.strips.specs.Strips.{Kept, kept, startOf, startAfter, startFault, stripMost, tooManyRows, stripFault, widthsDiffer, tooLittle, matchFault, shapeFault, addFault, addOf, addAfter, taken, endFault, endOf, totalsOf}
-use Rattle.strips.proofs.AddLaws.{add-known}
+use Rattle.strips.specs.Strips.{Kept, kept, startAfter, startFault, stripMost, tooManyRows, stripsDiffer, tooLittle, matchFault, shapeFault, addFault, addOf, addAfter, taken, endFault, endOf, totalsOf}
 use Rattle.strips.proofs.CarryLaws.{word-depth, fit-passed, sound}
 use Rattle.strips.proofs.Frames.{planes, samples-below, carryAt, carry-fits}
 use Rattle.strips.proofs.Level.{Level, Suits, Same, level-next, none-large}
-use Rattle.strips.proofs.RowLaws.{rows-none, rows-more}
 use Rattle.strips.proofs.ShapeLaws.{started, ended}
 
 module _ (word : Word) (depth : ℕ) (frames : Strip) (before : List ℕ)
@@ -74,14 +68,14 @@ module _ (word : Word) (depth : ℕ) (frames : Strip) (before : List ℕ)
       (list : blocksIn (at r) ≤ length costs) where
     -- it is accepted
     shape-passes : shapeFault (wordFault word depth) (at r) (s .first) (length (s .a)) (s .second) (length (s .b)) (length room) (length costs) ≡ 0
-    unfolding shapeFault matchFault widthsDiffer tooLittle tooManyRows sizesDiffer
+    unfolding shapeFault matchFault stripsDiffer tooLittle tooManyRows sizesDiffer
     shape-passes =
         let few : tooManyRows (at r) (s .first) ≡ false =
         rw (le-ltb stripMost (s .first .height) (shows .few), le-ltb (p .height) (r + s .first .height) within) refl in
         let few2 : tooManyRows (at r) (s .second) ≡ false =
         rw (le-ltb stripMost (s .second .height) (omega (arith, shows .few, shows .heights)), le-ltb (p .height) (r + s .second .height) (omega (arith, within, shows .heights))) refl in
         let widths : s .first .width ≡ s .second .width = shows .widths .0 ∙ sym (shows .widths .1) in
-        let match : widthsDiffer (at r) (s .first) (s .second) ≡ false =
+        let match : stripsDiffer (at r) (s .first) (s .second) ≡ false =
         rw (eq-eqb (s .first .width) (s .second .width) widths, eq-eqb (s .first .height) (s .second .height) (shows .heights), eq-eqb (s .first .width) (p .width) (shows .widths .0)) refl in
         let enough : tooLittle (at r) (length room) (length costs) ≡ false =
         rw (le-ltb (length costs) (blocksIn (at r)) list, le-ltb (length room) (roomLong (at r)) (here .enough)) refl in

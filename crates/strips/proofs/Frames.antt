@@ -1,17 +1,16 @@
 -- The totals of the first rows of two frames that no measure refuses, and the carry that has them: it is never unfit. Assumes nothing.
 use mathlib.Core.Bool.{Bool, true, false, _||_, _&&_}
 use mathlib.Core.List.{List}
-use mathlib.Core.Path.{_≡_, refl, sym, ap, _∙_}
+use mathlib.Core.Path.{_≡_, refl}
 use Prim.Native.Nat.{ℕ, _+_, _-_, _*_, _/_, _≤_, _<_, _^_}
 use native.Mathlib.Nat.{mul-assoc, mul-le-mul}
 use native.Mathlib.Omega.{arith}
 use borrow.Author.Tests.{le-ltb}
-use lib.Dec.{ltb}
+use lib.Dec.{eqb}
 use lib.ListN.{length}
-use lib.Pow.{pow-pos}
 use Rattle.importance.specs.Importance.{mean, blockSum, blockDifference, blocksDifference}
 use Rattle.plane.specs.Blocks.{blockSide, blocksAcross, blockSample}
-use Rattle.plane.specs.Planes.{Word, byte, deep, suits, maxSide, sampleAt, pairFault}
+use Rattle.plane.specs.Planes.{Word, maxSide, depthFault, sampleAt, pairFault}
 use Rattle.plane.specs.declared.Plane.{Plane}
 use Rattle.plane.proofs.PlaneLaws.{Pair, pair, side-passes}
 use Rattle.plane.proofs.SampleLaws.{measured, measured-below, sample-below}
@@ -30,7 +29,7 @@ pub fits-back : (c : Carry) → 0 < c .width → c .width ≤ maxSide → 0 < c 
 unfolding carryUnfit totalsPast
 fits-back c w w≤ h h≤ r d i =
     let totals : above c (totalsMost c) ≡ false = rw (le-ltb (totalsMost c) (c .difference) d, le-ltb (totalsMost c) (c .importance) i) refl in
-    rw (side-passes (c .width) w w≤, side-passes (c .height) h h≤, le-ltb (c .height) (c .rows) r) (silent (suits byte (c .depth) || suits deep (c .depth)) (above c (totalsMost c)) totals)
+    rw (side-passes (c .width) w w≤, side-passes (c .height) h h≤, le-ltb (c .height) (c .rows) r) (silent (eqb (depthFault (c .depth)) 0) (above c (totalsMost c)) totals)
   where
     silent : (a t : Bool) → t ≡ false → a && t ≡ false
     silent true t e = e

@@ -2,24 +2,22 @@
 use mathlib.Core.Bool.{Bool, true, false, not, _||_}
 use mathlib.Core.List.{List}
 use mathlib.Core.Path.{_≡_, refl, sym, ap, _∙_}
-use Prim.Native.Nat.{ℕ, _+_, _-_, _*_, _/_, _≤_, _<_, _^_}
+use Prim.Native.Nat.{ℕ, _+_, _-_, _*_, _≤_, _<_, _^_}
 use native.Mathlib.Omega.{arith}
 use borrow.Author.Tests.{eq-eqb, le-ltb}
 use borrow.Rule.Slice.PartMut.{putMid}
-use lib.Dec.{ltb, eqb}
 use lib.ListN.{length, getD, take, drop, length-take, length-drop}
-use Rattle.answer.specs.Answer.{Answer, gives, refused, lentAfter, wholeAnswer}
-use Rattle.answer.specs.Refusal.{refusal, _orElse_}
+use Rattle.answer.specs.Answer.{Answer, refused, wholeAnswer}
+use Rattle.answer.specs.Refusal.{refusal}
 use Rattle.answer.specs.declared.Whole.{Whole}
 use Rattle.answer.specs.declared.Whole.the-variants as whole
 use Rattle.answer.proofs.Laws.{or-later, or-both, test-given, test-passed, answer-cases, lent-written, lent-kept}
-use Rattle.importance.specs.Importance.{importanceTotal, totalOf}
+use Rattle.importance.specs.Importance.{totalOf}
 use Rattle.importance.proofs.BlockSums.{total-most}
 use Rattle.intra.specs.Costs.{costAt, costsAfter, costsFault, planeCostsOf}
 use Rattle.intra.specs.Fill.{flatSample}
-use Rattle.plane.specs.Blocks.{blockSide, blockCount}
-use Rattle.plane.specs.Planes.{Word, planeFault, sizesDiffer, sizesFault, shapesFault, pairFault, sampleFault, tooLarge}
-use Rattle.plane.specs.declared.Plane.{Plane}
+use Rattle.plane.specs.Blocks.{blockCount}
+use Rattle.plane.specs.Planes.{Word, sizesDiffer, sizesFault, shapesFault, pairFault, sampleFault, tooLarge}
 use Rattle.plane.proofs.PlaneLaws.{Lies, not-refused}
 use Rattle.plane.proofs.SampleLaws.{pair-fault-is}
 use Rattle.sums.specs.Places.{inRun}

@@ -1,5 +1,5 @@
 -- Strips that show two frames: what the room, the total and the costs hold after each row, by the frames' own samples. Assumes nothing.
-use mathlib.Core.Bool.{Bool, true, false, _||_, cond}
+use mathlib.Core.Bool.{Bool, false, _||_}
 use mathlib.Core.List.{List}
 use mathlib.Core.Path.{_≡_, refl, sym, ap, subst, _∙_}
 use Prim.Native.Nat.{ℕ, _+_, _-_, _*_, _/_, _%_, _≤_, _<_, _^_}
@@ -8,15 +8,14 @@ use native.Mathlib.Nat.{add-mul}
 use native.Mathlib.Omega.{arith}
 use borrow.Author.Tests.{eq-eqb, ne-eqb, lt-leb}
 use lib.Arith.{digits-div, digits-mod}
-use lib.Dec.{ltb, leb, eqb}
+use lib.Dec.{ltb}
 use lib.ListN.{length, getD}
-use Rattle.answer.specs.Answer.{Answer, answered, lentAfter}
 use Rattle.answer.proofs.Laws.{answer-given, lent-written, test-passed}
-use Rattle.importance.specs.Importance.{mean, blockSum, blockDifference, blocksDifference, importanceTotal, totalOf}
+use Rattle.importance.specs.Importance.{mean, blockSum, blockDifference, blocksDifference, importanceTotal}
 use Rattle.intra.specs.Costs.{blockOf, prediction, blockCost, costAt}
 use Rattle.intra.specs.Fill.{flatSample}
 use Rattle.plane.specs.Blocks.{blockSide, blocksAcross, blockSample}
-use Rattle.plane.specs.Planes.{Word, sampleAt, tooLarge, sampleFault}
+use Rattle.plane.specs.Planes.{Word, sampleAt, tooLarge}
 use Rattle.plane.specs.declared.Plane.{Plane}
 use Rattle.satd.specs.Satd.{blockSize, satdValue}
 use Rattle.sums.specs.Any.{anyBelow}

@@ -4,26 +4,26 @@ use mathlib.Core.List.{List}
 use mathlib.Core.Path.{_≡_, refl, sym, ap, subst, _∙_}
 use Prim.Native.Nat.{ℕ, zero, suc, _+_, _-_, _*_, _/_, _%_, _≤_, _<_, _^_}
 use native.Mathlib.Decide.{decLt, ℕ-discrete}
-use native.Mathlib.Nat.{add-mul, mul-assoc, mul-le-mul, mul-le-mul-right}
+use native.Mathlib.Nat.{add-mul, mul-assoc, mul-le-mul-right}
 use native.Mathlib.Omega.{arith}
 use borrow.Author.Tests.{eq-eqb, ne-eqb}
 use lib.Dec.{eqb}
 use lib.ListN.{length, getD}
 use Rattle.answer.specs.Answer.{Answer, lentAfter}
 use Rattle.answer.proofs.Laws.{answer-cases, lent-written, test-passed}
-use Rattle.importance.specs.Importance.{blocksDifference, importanceTotal}
+use Rattle.importance.specs.Importance.{importanceTotal}
 use Rattle.intra.specs.Costs.{costAt}
 use Rattle.intra.specs.Fill.{flatSample}
 use Rattle.plane.specs.Blocks.{blockSide}
-use Rattle.plane.specs.Planes.{Word, maxSide, wordFault, depthFault, tooLarge, pairFault, sampleFault}
+use Rattle.plane.specs.Planes.{Word, depthFault, tooLarge, sampleFault}
 use Rattle.plane.proofs.SampleLaws.{pair-fault-is}
-use Rattle.sad.specs.Difference.{rowSad, planeSad}
+use Rattle.sad.specs.Difference.{planeSad}
 use Rattle.strips.specs.declared.carry.Carry.{Carry}
 use Rattle.strips.specs.Carry.{carryOf, carryNumbers, blocksAlong, totalsMost, carryUnfit, carryFault}
-use Rattle.strips.specs.Needs.{Sound, Taken, held}
-use Rattle.strips.specs.Promises.{StaysFit, OnlyFinished, costPlace}
+use Rattle.strips.specs.Needs.{Taken, held}
+use Rattle.strips.specs.Promises.{StaysFit, OnlyFinished}
 use Rattle.strips.specs.Rows.{Strip, Held, laid, heldFirst, heldSecond, orNothing, blocksRise, blocksCosts, heldRow, heldRows}
-use Rattle.strips.specs.Strips.{Kept, kept, strip, addFault, addAfter, heldAfter, carryAfter, taken}
+use Rattle.strips.specs.Strips.{Kept, strip, addAfter, heldAfter, carryAfter, taken}
 use Rattle.strips.proofs.AddLaws.{add-known}
 use Rattle.strips.proofs.CarryLaws.{word-depth, fit-passed}
 use Rattle.strips.proofs.Frames.{rows-most, blocks-most, fits-back}

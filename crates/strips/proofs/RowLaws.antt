@@ -22,7 +22,6 @@ use Rattle.plane.proofs.PlaneLaws.{Lies, row-at}
 use Rattle.sad.specs.Difference.{planeSad, rowSad}
 use Rattle.sums.specs.Any.{anyBelow}
 use Rattle.sums.specs.Places.{inRun}
-use Rattle.sums.specs.Sums.{sumBelow}
 use Rattle.sums.specs.Written.{written}
 use Rattle.sums.proofs.AnyLaws.{any-zero}
 use Rattle.sums.proofs.PlaceLaws.{run-holds}

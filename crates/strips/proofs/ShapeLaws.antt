@@ -1,14 +1,14 @@
 -- The refusals of strips by their shapes, in order, and what strips keep to that are not refused. Assumes nothing.
-use mathlib.Core.Bool.{Bool, true, false, not, _||_, cond}
+use mathlib.Core.Bool.{Bool, true, false, not, _||_}
 use mathlib.Core.List.{List}
 use mathlib.Core.Path.{_≡_, refl, sym, ap, _∙_}
-use Prim.Native.Nat.{ℕ, _+_, _-_, _*_, _≤_, _<_}
-use native.Mathlib.Decide.{decLt, ℕ-discrete}
+use Prim.Native.Nat.{ℕ, _+_, _-_, _≤_, _<_}
+use native.Mathlib.Decide.{decLt}
 use native.Mathlib.Omega.{arith}
 use borrow.Author.Tests.{lt-ltb, le-ltb, ltb-false, eq-eqb, ne-eqb, eqb-true, not-false}
 use lib.Dec.{ltb, eqb}
 use lib.ListN.{length}
-use Rattle.answer.specs.Refusal.{refusal, _orElse_}
+use Rattle.answer.specs.Refusal.{refusal}
 use Rattle.answer.proofs.Laws.{or-no, or-none, or-both, or-given, or-later, passed, test-first, test-later, test-given, test-passed}
 use Rattle.plane.specs.Planes.{Word, badSide, depthFault, planeFault, sizesDiffer, sizesFault, shapesFault, wordFault}
 use Rattle.plane.specs.declared.Plane.{Plane}
@@ -16,7 +16,7 @@ use Rattle.strips.specs.declared.carry.Carry.{Carry}
 use Rattle.strips.specs.Carry.{carryLong, carryOf, blocksIn, carryUnfit, carryFault}
 use Rattle.strips.specs.Needs.{Taken}
 use Rattle.strips.specs.Rows.{roomLong}
-use Rattle.strips.specs.Strips.{startFault, endFault, stripMost, tooManyRows, stripFault, widthsDiffer, tooLittle, matchFault, shapeFault}
+use Rattle.strips.specs.Strips.{startFault, endFault, stripMost, tooManyRows, stripFault, stripsDiffer, tooLittle, matchFault, shapeFault}
 use Rattle.strips.proofs.CarryLaws.{sound}
 
 -- ---- 17
@@ -62,20 +62,20 @@ sizes-are p q also = refl
 
 module _ (c : Carry) (p q : Plane) (room costs : ℕ) where
   pub sizes-refused : sizesDiffer p q || not (eqb (p .width) (c .width)) ≡ true → 3 ≡ matchFault c p q room costs
-  unfolding matchFault widthsDiffer
+  unfolding matchFault stripsDiffer
   sizes-refused e = test-first 2 _ _ e
 
   pub room-refused : sizesDiffer p q || not (eqb (p .width) (c .width)) ≡ false → ltb costs (blocksIn c) || ltb room (roomLong c) ≡ true → 4 ≡ matchFault c p q room costs
-  unfolding matchFault widthsDiffer tooLittle
+  unfolding matchFault stripsDiffer tooLittle
   room-refused e d = test-later 3 4 _ _ e (test-given 4 _ d)
 
   pub matched : sizesDiffer p q || not (eqb (p .width) (c .width)) ≡ false → ltb costs (blocksIn c) || ltb room (roomLong c) ≡ false → 0 ≡ matchFault c p q room costs
-  unfolding matchFault widthsDiffer tooLittle
+  unfolding matchFault stripsDiffer tooLittle
   matched e d = test-later 3 0 _ _ e (test-passed 4 _ d)
 
   -- and what follows where neither is given
   pub match-known : matchFault c p q room costs ≡ 0 → (sizesDiffer p q ≡ false) × (p .width ≡ c .width) × (blocksIn c ≤ costs) × (roomLong c ≤ room)
-  unfolding matchFault widthsDiffer tooLittle
+  unfolding matchFault stripsDiffer tooLittle
   match-known e =
       let t = or-none (refusal 3 (sizesDiffer p q || not (eqb (p .width) (c .width)))) (refusal 4 (ltb costs (blocksIn c) || ltb room (roomLong c))) e in
       let s = or-no (sizesDiffer p q) (not (eqb (p .width) (c .width))) (passed 2 _ (t .0)) in

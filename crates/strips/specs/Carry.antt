@@ -1,5 +1,5 @@
--- Document 02, L6, "The camera sends strips": the carry, which is what a caller keeps between calls beside the lent room; and refusal 11, which
--- is of the carry alone.
+-- Document 02, L6, "The camera sends strips": the carry, which a caller keeps between calls beside the lent room and the costs; and refusal 11,
+-- which is of the carry alone.
 use mathlib.Core.Bool.{Bool, not, _||_, _&&_}
 use mathlib.Core.List.{List, [], _∷_}
 use Prim.Native.Nat.{ℕ, _-_, _*_, _/_, _^_}
@@ -7,7 +7,7 @@ use lib.Dec.{ltb, eqb}
 use lib.ListN.{length, getD}
 use Rattle.answer.specs.Refusal.{refusal}
 use Rattle.plane.specs.Blocks.{blockSide}
-use Rattle.plane.specs.Planes.{byte, deep, suits, badSide}
+use Rattle.plane.specs.Planes.{badSide, depthFault}
 use Rattle.strips.specs.declared.carry.Carry.{Carry}
 
 -- ---- six numbers: width, height, depth, rows that have come, difference so far, importance total so far
@@ -40,18 +40,19 @@ blocksIn c = c .height / blockSide * blocksAlong c
 
 -- ---- 11
 
--- "a total above rows × width × the largest sample", that of the carry's depth; for a depth that is none it is silent, so that 5 follows
+-- "rows × width × the largest sample", which is that of the carry's depth, whichever word the call has
 abbrev pub totalsMost : Carry → ℕ
 totalsMost c = c .rows * c .width * (2 ^ c .depth - 1)
 
+-- "a total above" that. For a depth that 5 refuses it is silent, so that 5 follows.
 unfoldable pub totalsPast : Carry → Bool
-totalsPast c = (suits byte (c .depth) || suits deep (c .depth)) && (ltb (totalsMost c) (c .difference) || ltb (totalsMost c) (c .importance))
+totalsPast c = eqb (depthFault (c .depth)) 0 && (ltb (totalsMost c) (c .difference) || ltb (totalsMost c) (c .importance))
 
 -- "a carry with a size that 1 forbids, more rows than the height or a total above" that
 unfoldable pub carryUnfit : Carry → Bool
 carryUnfit c = badSide (c .width) || badSide (c .height) || ltb (c .height) (c .rows) || totalsPast c
 
--- "11 for a carry of another length", and for one that is unfit
+-- 11 for a carry of another length, and for one that is unfit
 abbrev pub isCarry : List ℕ → Bool
 isCarry ns = eqb (length ns) carryLong
 

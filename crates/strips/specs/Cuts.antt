@@ -14,7 +14,7 @@ use Rattle.sad.specs.Difference.{differenceOf}
 use Rattle.strips.specs.declared.Totals.{Totals}
 use Rattle.strips.specs.Carry.{carryBy, isCarry}
 use Rattle.strips.specs.Rows.{Strip, roomLong}
-use Rattle.strips.specs.Strips.{Kept, kept, startOf, startAfter, stripMost, stripFault, addFault, addOf, addAfter, endOf}
+use Rattle.strips.specs.Strips.{Kept, kept, startOf, startAfter, stripMost, stripFault, addOf, addAfter, endOf}
 
 -- ---- the ways to cut
 

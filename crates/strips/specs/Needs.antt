@@ -1,4 +1,4 @@
--- What only private contracts cite: what a strip keeps to that is not refused by its shape.
+-- What only private contracts cite: a carry that is fit, and strips that are not refused by their shapes.
 use mathlib.Core.Path.{_≡_}
 use mathlib.Core.List.{List}
 use Prim.Native.Nat.{ℕ, _+_, _≤_, _<_}

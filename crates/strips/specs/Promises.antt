@@ -1,7 +1,6 @@
 -- What holds of every strip that is accepted, whatever the carry says and whatever the room holds. Proved in proofs/Promised.antt.
 use mathlib.Core.Path.{_≡_}
 use Prim.Native.Nat.{ℕ, _+_, _*_, _/_, _≤_, _<_}
-use mathlib.Core.List.{List}
 use lib.ListN.{length, getD}
 use Rattle.plane.specs.Blocks.{blockSide}
 use Rattle.plane.specs.Planes.{Word, depthFault}
@@ -9,7 +8,7 @@ use Rattle.strips.specs.Carry.{carryOf, blocksAlong, carryFault}
 use Rattle.strips.specs.Rows.{Strip}
 use Rattle.strips.specs.Strips.{Kept, addFault, addAfter}
 
--- "Rubbish in the room is no fault and no refusal", nor does it lead to one: the carry that a strip leaves passes 11 and 5
+-- Rubbish in the room is no refusal, nor does it lead to one: the carry that a strip leaves passes 11 and 5
 abbrev pub StaysFit : Type 0
 StaysFit =
     (word : Word) (k : Kept) (s : Strip) → addFault word k s ≡ 0
@@ -19,7 +18,7 @@ StaysFit =
 abbrev pub costPlace : Kept → ℕ → ℕ
 costPlace k rows = rows / blockSide * blocksAlong (carryOf (k .carry))
 
--- "A call writes only the costs of the blocks that it finishes": those before them and those behind them stay
+-- a call writes only the costs of the blocks that it finishes: those before them and those behind them stay
 abbrev pub OnlyFinished : Type 0
 OnlyFinished =
     (word : Word) (k : Kept) (s : Strip) → addFault word k s ≡ 0

@@ -55,8 +55,8 @@ roomRow c s j y room = rowsLaid c y (sampleAt (s .first) (s .a) j) (sampleAt (s 
 
 -- ---- a row of blocks, finished by its eighth row
 
--- "Rubbish in the room is no fault and no refusal": a held sample that is too large for its depth, which no strip leaves there, makes its row
--- of blocks count nothing
+-- Rubbish in the room is no fault and no refusal. A held sample that is too large for its depth, which no strip leaves there, keeps its row of
+-- blocks out of the importance total, and, if it is the second frame's, out of the costs.
 abbrev pub orNothing : Answer ℕ → ℕ
 orNothing (gives n) = n
 orNothing (refused f) = 0

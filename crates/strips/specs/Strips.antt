@@ -54,15 +54,15 @@ unfoldable pub stripFault : Plane → ℕ → ℕ
 stripFault p n = cond (eqb (p .height) 0) (refusal 1 (badSide (p .width) || ltb (p .stride) (p .width))) (planeFault p n)
 
 -- 3: "also against the carry's width"
-unfoldable pub widthsDiffer : Carry → Plane → Plane → Bool
-widthsDiffer c p q = sizesDiffer p q || not (eqb (p .width) (c .width))
+unfoldable pub stripsDiffer : Carry → Plane → Plane → Bool
+stripsDiffer c p q = sizesDiffer p q || not (eqb (p .width) (c .width))
 
 -- 4: a list shorter than the whole plane's blocks, or "lent room under 16 × width samples"
 unfoldable pub tooLittle : Carry → ℕ → ℕ → Bool
 tooLittle c room costs = ltb costs (blocksIn c) || ltb room (roomLong c)
 
 unfoldable pub matchFault : Carry → Plane → Plane → ℕ → ℕ → ℕ
-matchFault c p q room costs = refusal 3 (widthsDiffer c p q) orElse refusal 4 (tooLittle c room costs)
+matchFault c p q room costs = refusal 3 (stripsDiffer c p q) orElse refusal 4 (tooLittle c room costs)
 
 -- by the shapes, where `word` is what the carry's depth gets from the samples' word: 17, 5, 1 and 2 of the first, 1 and 2 of the second, 3, 4
 unfoldable pub shapeFault : ℕ → Carry → Plane → ℕ → Plane → ℕ → ℕ → ℕ → ℕ

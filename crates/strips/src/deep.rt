@@ -110,7 +110,7 @@ fn add_rows(
 
 // ---- a strip
 
-// The difference of strips whose shapes are not refused, or 16 where a sample is too large. One without a row has none.
+// The difference of strips whose shapes are not refused, or 16, its only refusal, where a sample is too large. Without a row there is none.
 fn strip_difference(depth: u64, p: Plane, a: &[u16], q: Plane, b: &[u16]) -> Whole
     requires { ⌜ (0 < p .height → shapesFault deep depth p (length (now a)) q (length (now b)) ≡ 0) ⌝ }
     requires { ⌜ p .height ≡ q .height ⌝ }

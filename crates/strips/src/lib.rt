@@ -1,5 +1,5 @@
-// Frames that come a few rows at a time: start, strip after strip, and the end. What is kept between calls is the carry, six numbers, and the
-// lent room with the rows of the row of blocks that is not finished.
+// Frames that come a few rows at a time: start, strip after strip, and the end. What is kept between calls is the carry, six numbers, the lent
+// room with the rows of the row of blocks that is not finished, and the costs.
 use answer::Whole;
 use carry::Carry;
 use plane::BLOCK_SIDE;
@@ -152,7 +152,7 @@ fn add_rows(
 
 // ---- a strip
 
-// The difference of strips whose shapes are not refused, or 16 where a sample is too large. One without a row has none.
+// The difference of strips whose shapes are not refused, or 16, its only refusal, where a sample is too large. Without a row there is none.
 fn strip_difference(depth: u64, p: Plane, a: &[u8], q: Plane, b: &[u8]) -> Whole
     requires { ⌜ (0 < p .height → shapesFault byte depth p (length (now a)) q (length (now b)) ≡ 0) ⌝ }
     requires { ⌜ p .height ≡ q .height ⌝ }

@@ -1,6 +1,6 @@
 -- `strips::end` meets its contract: 11, 5 and 18 in this order, and else what the carry holds. Assumes nothing.
 use native.Mathlib.Omega.{arith}
-use mathlib.Core.Path.{_≡_, refl, sym, ap, _∙_}
+use mathlib.Core.Path.{_≡_, sym, ap, _∙_}
 use borrow.Author.Needs.{needs}
 use Rattle.answer.proofs.Laws.{answer-given, answer-refused}
 use Rattle.plane.specs.Planes.{depthFault}

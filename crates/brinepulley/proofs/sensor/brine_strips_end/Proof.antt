@@ -1,5 +1,5 @@
 -- `brinepulley::sensor::brine_strips_end` meets its contract: the totals go to their places, and a refusal leaves these. Assumes nothing.
-use mathlib.Core.Path.{_≡_, refl, sym, ap, _∙_}
+use mathlib.Core.Path.{_≡_, sym, ap, _∙_}
 use borrow.Author.Needs.{needs, sfits-of}
 use mir.Facts.{toZ-ofZ}
 use Rattle.answer.specs.Answer.{Answer, gives, refused}

@@ -1,37 +1,44 @@
 -- `importance::deep::importance` meets its contract: a refusal is handed on, and else the total is divided by the number of blocks. Assumes nothing.
-use mathlib.Core.Bool.{true}
-use mathlib.Core.Path.{_≡_, sym, _∙_}
+use mathlib.Core.Path.{_≡_, sym, ap, _∙_}
+use Prim.Native.Nat.{ℕ}
 use borrow.Author.Needs.{needs}
 use lib.ListN.{length}
-use Rattle.plane.specs.Planes.{deep, suits, sizesFault}
-use Rattle.plane.proofs.SampleLaws.{by-shapes, suited}
+use Rattle.answer.proofs.Laws.{answer-given}
+use Rattle.plane.specs.Blocks.{blockCount}
+use Rattle.plane.specs.Planes.{deep, pairFault}
+use Rattle.plane.proofs.SampleLaws.{measured}
+use Rattle.sums.specs.Quotient.{quotientOf}
+use Rattle.importance.specs.Importance.{importanceTotal}
 use Rattle.importance.proofs.BlockSums.{count-fits}
-use Rattle.importance.proofs.RowLooks.{shapes-refused, quotient-refused, quotient-given}
+use Rattle.importance.proofs.RowLooks.{handed-on, given}
 use Rattle.importance.proofs.deep.importance.Statement.{statement}
 use Rattle.importance.proofs.deep.importance.Tie as tie
 
-returns : tie.Need-returns
-returns c = shapes-refused _ _ _ _ _ _ _ (c .before .shapes-fault .ensures) (c .if1 .taken)
+-- a total that is given says that nothing is refused
+passed : (c : tie.After-total)
+    → let s = c .before .before .before .before .before .args in
+    (pairFault deep (s .depth) (s .p) (s .a .now) (s .q) (s .b .now) ≡ 0) × (c .total .given .0 .0 ≡ importanceTotal (s .p) (s .a .now) (s .q) (s .b .now))
+passed c = given {A = ℕ} _ _ 0 _ (c .before .before .importance-total .ensures) _ (c .total .given .1)
 
--- past the test the shapes are not refused
-sizes : (c : tie.Else1)
-    → let s = c .before .before .before .before .args in
-    (sizesFault (s .p) (length (s .a .now)) (s .q) (length (s .b .now)) ≡ 0) × (suits deep (s .depth) ≡ true)
-sizes c = let t = by-shapes deep _ _ _ _ _ (sym (c .before .shapes-fault .ensures) ∙ c .if1 .left) in (t .1, suited deep _ (t .0))
+mul-count : tie.Need-mul-count
+mul-count c =
+    let t = c .before .before .before in
+    let s = t .before .before .before .before .before .args in
+    record { fits = count-fits (s .p) (length (s .a .now)) (s .q) (length (s .b .now)) (measured deep (s .depth) (s .p) (s .a .now) (s .q) (s .b .now) (passed t .0)) }
+
+returns : tie.Need-returns
+returns c =
+    let f = c .before in
+    let t = f .before .before in
+    handed-on _ _ _ _ (t .importance-total .ensures) _ (f .fault .given .1)
 
 returns-2 : tie.Need-returns-2
 returns-2 c =
-    let d = c .before .before in
-    quotient-refused _ _ _ _ _ (sym (d .before .if1 .left) ∙ d .before .before .shapes-fault .ensures) _ (d .all-differences .ensures) _ (c .enum-told .given .1)
-
-returns-3 : tie.Need-returns-3
-returns-3 c =
     let t = c .before .before .before .before in
-    let d = t .before .before in
-    quotient-given _ _ _ _ _ (sym (d .before .if1 .left) ∙ d .before .before .shapes-fault .ensures) _ (d .all-differences .ensures) _ _ (t .total .given .1) (c .quotient .ensures)
+    let s = t .before .before .before .before .before .args in
+    answer-given _ _ _ (sym (passed t .0)) (c .quotient .ensures ∙ ap (λ (n : ℕ). quotientOf n (blockCount (s .p))) (passed t .1))
 
 pub importance-spec : {M : Type 1} → statement M
 importance-spec =
     tie.close
-    (tie.spec (λ c κs. search needs) returns (λ c κs. sizes c) (λ c. search needs) (λ c. search needs) returns-2
-    (λ c. record { fits = count-fits _ _ _ _ (sizes (c .before .before .before .before .before .before) .0) }) (λ c κs. search needs) returns-3)
+    (tie.spec (λ c κs. search needs) (λ c. search needs) (λ c. search needs) mul-count (λ c κs. search needs) returns returns-2)

@@ -1,19 +1,18 @@
 -- `strips::deep::add` meets its contract: each refusal in its order, before anything is written; and else the rows, one after the other. Assumes nothing.
 use mathlib.Core.Bool.{Bool, false, _||_}
-use mathlib.Core.Path.{_≡_, refl, sym, ap, _∙_}
+use mathlib.Core.Path.{_≡_, sym, ap, _∙_}
 use Prim.Native.Nat.{ℕ, _+_}
 use native.Mathlib.Omega.{arith}
 use borrow.Author.Needs.{needs}
 use lib.ListN.{length}
-use Rattle.answer.proofs.Laws.{answer-given, or-both}
+use Rattle.answer.proofs.Laws.{answer-given}
 use Rattle.answer.specs.Refusal.{refusal}
 use Rattle.plane.specs.Planes.{deep, tooLarge}
 use Rattle.sad.specs.Difference.{planeSad}
 use Rattle.plane.proofs.SampleLaws.{number-given, refused-given}
 use Rattle.strips.specs.declared.carry.Carry.{Carry}
-use Rattle.strips.specs.Carry.{carryOf, carryUnfit, carryFault}
+use Rattle.strips.specs.Carry.{carryUnfit, carryFault}
 use Rattle.strips.specs.Needs.{Taken}
-use Rattle.strips.specs.Strips.{kept, strip, addFault}
 use Rattle.strips.proofs.AddLaws.{carry-refused, shape-refused, sample-refused, accepted, all-taken, difference-small}
 use Rattle.strips.proofs.CarryLaws.{carry-passed, totals-small}
 use Rattle.strips.proofs.ShapeLaws.{taken-known, shapes-pass}

@@ -1,9 +1,8 @@
 -- `strips::shape::match_fault` meets its contract: the sizes first, then the lent room and the list. Assumes nothing.
-use mathlib.Core.Bool.{Bool, false, not, _||_}
-use mathlib.Core.Path.{_≡_, refl, ap, _∙_}
-use Prim.Native.Nat.{ℕ}
+use mathlib.Core.Bool.{false, not, _||_}
+use mathlib.Core.Path.{_≡_, _∙_}
 use borrow.Author.Needs.{needs}
-use lib.Dec.{ltb, eqb}
+use lib.Dec.{eqb}
 use Rattle.plane.specs.Planes.{sizesDiffer}
 use Rattle.strips.proofs.ShapeLaws.{sizes-are, sizes-refused, room-refused, matched}
 use Rattle.strips.proofs.shape.match_fault.Statement.{statement}

@@ -1,7 +1,6 @@
 -- `strips::shape::shape_fault` meets its contract: each refusal in its order. Assumes nothing.
 use mathlib.Core.Bool.{false, _||_}
 use mathlib.Core.Path.{_≡_, sym, _∙_}
-use native.Mathlib.Omega.{arith}
 use borrow.Author.Needs.{needs}
 use Rattle.strips.specs.Strips.{tooManyRows}
 use Rattle.strips.proofs.CarryLaws.{fit}
