@@ -138,8 +138,10 @@ void driver_start(struct driver *d, uint32_t depth, size_t width, size_t height)
     d->room_len = 16 * width + some(MOST_SPARE);
     d->costs_len = (width / 8) * (height / 8) + some(MOST_SPARE);
     uint64_t *carry = make_rubbish(&d->carry, BRINE_CARRY * sizeof(uint64_t));
-    memcpy(d->want_room, make_rubbish(&d->room, d->room_len * word_bytes(depth)), d->room.bytes);
-    memcpy(d->want_costs, make_rubbish(&d->costs, d->costs_len * sizeof(uint32_t)), d->costs.bytes);
+    make_rubbish(&d->room, d->room_len * word_bytes(depth));
+    make_rubbish(&d->costs, d->costs_len * sizeof(uint32_t));
+    memcpy(d->want_room, d->room.at, d->room.bytes);
+    memcpy(d->want_costs, d->costs.at, d->costs.bytes);
     memcpy(d->want_carry, want, sizeof want);
     EXPECT_NUMBER(brine_strips_start(depth, width, height, carry, BRINE_CARRY), 0);
     EXPECT(walled_holds(&d->carry, want));
