@@ -21,7 +21,7 @@ use Rattle.strips.specs.Rows.{Strip, Held, heldRows}
 use Rattle.strips.proofs.RowLaws.{nothing}
 use Rattle.strips.proofs.CarryLaws.{fit, carry-passed, blocks-most}
 use Rattle.strips.proofs.ShapeLaws.{shapes-pass, taken-known}
-use Rattle.strips.specs.Strips.{Kept, kept, shapeFault, addFault, addOf, addAfter, heldAfter, carryAfter, taken, endFault}
+use Rattle.strips.specs.Strips.{Kept, kept, shapeFault, addFault, addOf, addAfter, heldAfter, carryAfter, endFault}
 
 -- the difference of strips that are not refused is small
 pub difference-small : (word : Word) (c : Carry) (p : Plane) (a : List ℕ) (q : Plane) (b : List ℕ) (room costs : ℕ)

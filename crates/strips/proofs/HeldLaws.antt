@@ -1,5 +1,5 @@
 -- The rows that the room holds, as planes: they are not refused by their shape, and what a finished row of blocks leaves. Assumes nothing.
-use mathlib.Core.Bool.{Bool, true, false, not, _||_}
+use mathlib.Core.Bool.{Bool, true, false, _||_}
 use mathlib.Core.List.{List}
 use mathlib.Core.Path.{_≡_, refl, sym, ap, _∙_}
 use Prim.Native.Nat.{ℕ, _+_, _-_, _*_, _≤_, _<_, _^_}
@@ -7,7 +7,7 @@ use native.Mathlib.Omega.{arith}
 use borrow.Author.Tests.{eq-eqb, le-ltb}
 use borrow.Rule.Slice.PartMut.{putMid}
 use lib.ListN.{length, getD, take, drop, length-take, length-drop}
-use Rattle.answer.specs.Answer.{Answer, refused, wholeAnswer}
+use Rattle.answer.specs.Answer.{Answer, wholeAnswer}
 use Rattle.answer.specs.Refusal.{refusal}
 use Rattle.answer.specs.declared.Whole.{Whole}
 use Rattle.answer.specs.declared.Whole.the-variants as whole

@@ -84,29 +84,29 @@ module _ (c : Carry) (p q : Plane) (room costs : ℕ) where
 
 -- ---- all of them, in order
 
-module _ (word : ℕ) (c : Carry) (p : Plane) (n : ℕ) (q : Plane) (m room costs : ℕ) where
-  pub many-refused : tooManyRows c p || tooManyRows c q ≡ true → 17 ≡ shapeFault word c p n q m room costs
+module _ (unsuited : ℕ) (c : Carry) (p : Plane) (n : ℕ) (q : Plane) (m room costs : ℕ) where
+  pub many-refused : tooManyRows c p || tooManyRows c q ≡ true → 17 ≡ shapeFault unsuited c p n q m room costs
   unfolding shapeFault
   many-refused e = test-first 16 _ _ e
 
   module _ (few : tooManyRows c p || tooManyRows c q ≡ false) where
-    pub word-refused : (word ≡ 0 → ⊥) → word ≡ shapeFault word c p n q m room costs
+    pub word-refused : (unsuited ≡ 0 → ⊥) → unsuited ≡ shapeFault unsuited c p n q m room costs
     unfolding shapeFault
-    word-refused h = test-later 17 word _ _ few (or-given word word _ refl h)
+    word-refused h = test-later 17 unsuited _ _ few (or-given unsuited unsuited _ refl h)
 
-    module _ (suits : word ≡ 0) where
-      pub first-refused : (r : ℕ) → r ≡ stripFault p n → (r ≡ 0 → ⊥) → r ≡ shapeFault word c p n q m room costs
+    module _ (suits : unsuited ≡ 0) where
+      pub first-refused : (r : ℕ) → r ≡ stripFault p n → (r ≡ 0 → ⊥) → r ≡ shapeFault unsuited c p n q m room costs
       unfolding shapeFault
-      first-refused r e h = test-later 17 r _ _ few (or-later r word _ (sym suits) (or-given r _ _ e h))
+      first-refused r e h = test-later 17 r _ _ few (or-later r unsuited _ (sym suits) (or-given r _ _ e h))
 
       module _ (first : 0 ≡ stripFault p n) where
-        pub second-refused : (r : ℕ) → r ≡ stripFault q m → (r ≡ 0 → ⊥) → r ≡ shapeFault word c p n q m room costs
+        pub second-refused : (r : ℕ) → r ≡ stripFault q m → (r ≡ 0 → ⊥) → r ≡ shapeFault unsuited c p n q m room costs
         unfolding shapeFault
-        second-refused r e h = test-later 17 r _ _ few (or-later r word _ (sym suits) (or-later r _ _ first (or-given r _ _ e h)))
+        second-refused r e h = test-later 17 r _ _ few (or-later r unsuited _ (sym suits) (or-later r _ _ first (or-given r _ _ e h)))
 
-        pub match-decides : 0 ≡ stripFault q m → (r : ℕ) → r ≡ matchFault c p q room costs → r ≡ shapeFault word c p n q m room costs
+        pub match-decides : 0 ≡ stripFault q m → (r : ℕ) → r ≡ matchFault c p q room costs → r ≡ shapeFault unsuited c p n q m room costs
         unfolding shapeFault
-        match-decides second r e = test-later 17 r _ _ few (or-later r word _ (sym suits) (or-later r _ _ first (or-later r _ _ second e)))
+        match-decides second r e = test-later 17 r _ _ few (or-later r unsuited _ (sym suits) (or-later r _ _ first (or-later r _ _ second e)))
 
 -- where none is given
 pub taken-known : (word : Word) (c : Carry) (p : Plane) (n : ℕ) (q : Plane) (m room costs : ℕ) → carryUnfit c ≡ false

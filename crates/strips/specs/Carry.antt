@@ -52,9 +52,9 @@ totalsPast c = eqb (depthFault (c .depth)) 0 && (ltb (totalsMost c) (c .differen
 unfoldable pub carryUnfit : Carry → Bool
 carryUnfit c = badSide (c .width) || badSide (c .height) || ltb (c .height) (c .rows) || totalsPast c
 
--- 11 for a carry of another length, and for one that is unfit
 abbrev pub isCarry : List ℕ → Bool
 isCarry ns = eqb (length ns) carryLong
 
+-- for a carry of another length, and for one that is unfit
 unfoldable pub carryFault : List ℕ → ℕ
 carryFault ns = refusal 11 (not (isCarry ns) || carryUnfit (carryOf ns))

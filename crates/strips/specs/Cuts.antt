@@ -18,6 +18,8 @@ use Rattle.strips.specs.Strips.{Kept, kept, startOf, startAfter, stripMo
 
 -- ---- the ways to cut
 
+-- `frames` has both whole planes, as a strip of all rows: these may be more than 64.
+
 -- s shows the rows of both frames from row `at` on, as many as it has: 64 at most, and it may have none. Its stride and its origin are its own,
 -- and so are the samples beside it.
 pub record Shows (frames : Strip) (at : ℕ) (s : Strip) : Type 0 where

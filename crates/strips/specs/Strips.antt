@@ -64,10 +64,11 @@ tooLittle c room costs = ltb costs (blocksIn c) || ltb room (roomLong c)
 unfoldable pub matchFault : Carry → Plane → Plane → ℕ → ℕ → ℕ
 matchFault c p q room costs = refusal 3 (stripsDiffer c p q) orElse refusal 4 (tooLittle c room costs)
 
--- by the shapes, where `word` is what the carry's depth gets from the samples' word: 17, 5, 1 and 2 of the first, 1 and 2 of the second, 3, 4
+-- by the shapes: 17, 5, 1 and 2 of the first, 1 and 2 of the second, 3, 4. `unsuited` is 5 where the carry's depth does not suit the samples'
+-- word, else 0.
 unfoldable pub shapeFault : ℕ → Carry → Plane → ℕ → Plane → ℕ → ℕ → ℕ → ℕ
-shapeFault word c p n q m room costs =
-    refusal 17 (tooManyRows c p || tooManyRows c q) orElse word orElse stripFault p n orElse stripFault q m
+shapeFault unsuited c p n q m room costs =
+    refusal 17 (tooManyRows c p || tooManyRows c q) orElse unsuited orElse stripFault p n orElse stripFault q m
     orElse matchFault c p q room costs
 
 -- 11 first, and 16 last

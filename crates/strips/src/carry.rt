@@ -22,6 +22,7 @@ pub struct Carry {
     pub importance: u64,
 }
 
+// The six numbers in their lent places, by name.
 pub fn lent_carry(numbers: &[u64]) -> Carry
     requires { ⌜ length (now numbers) ≡ carryLong ⌝ }
     ensures { λ r. ⌜ r ≡ carryOf (now (numbers .entry)) ⌝ }
@@ -36,6 +37,7 @@ pub fn lent_carry(numbers: &[u64]) -> Carry
     }
 }
 
+// And back.
 pub fn put_carry(numbers: &mut [u64], c: Carry)
     requires { ⌜ length (now numbers) ≡ carryLong ⌝ }
     ensures { λ _. ⌜ now (numbers .exit) ≡ carryNumbers c ⌝ }
@@ -74,6 +76,7 @@ fn totals_past(c: Carry) -> bool
     false
 }
 
+// Whether 11 refuses it. Sides and rows are looked at first, so that the limit of the totals does not overflow.
 fn carry_unfit(c: Carry) -> bool
     ensures { λ r. ⌜ r ≡ carryUnfit c ⌝ }
 {

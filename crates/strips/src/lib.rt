@@ -28,6 +28,7 @@ pub struct Totals {
     pub importance: u64,
 }
 
+// The end's answer: what was measured, or a refusal's number.
 pub enum Ended {
     Measured(Totals),
     Refused(u32),

@@ -54,9 +54,9 @@ fn match_fault(c: Carry, p: Plane, q: Plane, room: usize, costs: usize) -> u32
     0
 }
 
-// The refusal of strips by their shapes, or 0. `word` is 5 where the carry's depth does not suit the samples' word, else 0.
+// The refusal of strips by their shapes, or 0. `unsuited` is 5 where the carry's depth does not suit the samples' word, else 0.
 pub fn shape_fault(
-    word: u32,
+    unsuited: u32,
     c: Carry,
     p: Plane,
     n: usize,
@@ -66,13 +66,13 @@ pub fn shape_fault(
     costs: usize,
 ) -> u32
     requires { ⌜ carryUnfit c ≡ false ⌝ }
-    ensures { λ r. ⌜ r ≡ shapeFault word c p n q m room costs ⌝ }
+    ensures { λ r. ⌜ r ≡ shapeFault unsuited c p n q m room costs ⌝ }
 {
     if too_many_rows(c, p) | too_many_rows(c, q) {
         return 17;
     }
-    if word != 0 {
-        return word;
+    if unsuited != 0 {
+        return unsuited;
     }
     let first = strip_fault(p, n);
     if first != 0 {

@@ -24,10 +24,6 @@ loop-holds c =
     let s = c .before .before .before .before in
     (refl, omega arith, taken-none byte (s .args .c) _ _ (s .pre .carry) (s .pre .carry .importance))
 
--- the function's start, from a turn
-abbrev entry : tie.In-loop Inv-loop μ-loop → tie.Start Inv-loop μ-loop
-entry c = c .before .before .before .before .before .before
-
 add-row-requires : tie.Need-add-row-requires Inv-loop μ-loop
 add-row-requires c κs =
     let l = c .before .before .before .loop in
