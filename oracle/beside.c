@@ -1,6 +1,7 @@
 /* Reads cases with the crate's answers from the standard input, gives each to the library, and compares. */
 #include "beside_detector.h"
 #include "beside_log.h"
+#include "beside_plane.h"
 #include "beside_strips.h"
 #include "brinepulley.h"
 #include "cases.h"
@@ -34,23 +35,6 @@ static void scale(void)
     int64_t due = answer(), got = brine_scale_factor(n[0], n[1], (uint32_t)n[2]);
     measure(M_SCALE, 1, due, got);
 }
-
-struct plane {
-    uint64_t width, height, stride, origin;
-    const void *samples;
-    size_t len;
-    void *lent;
-};
-
-static struct plane plane(enum slot slot)
-{
-    struct plane p = {word(), word(), word(), word(), NULL, 0, NULL};
-    p.samples = samples(&p.len);
-    p.lent = lend(slot, p.samples, p.len * sample_bytes, sample_bytes);
-    return p;
-}
-
-#define AS_LENT(p) (p).lent, (p).len, (p).width, (p).height, (p).stride, (p).origin
 
 static void reduction(void)
 {
@@ -159,6 +143,29 @@ static void print_measured(int is_deep)
     printf("\n");
 }
 
+static void compare(enum kind kind)
+{
+    switch (kind) {
+    case SCALE: scale(); break;
+    case REDUCE: case REDUCE16: reduction(); break;
+    case PLANES: case PLANES16: planes(); break;
+    case INTRA: case INTRA16: intra(); break;
+    case THRESHOLDS: threshold(); break;
+    case HADAMARD: hadamard(); break;
+    case SATD: case SATD16: satd(); break;
+    case FRESH: detector_fresh(); break;
+    case STATE: detector_state(); break;
+    case STEP: detector_step(); break;
+    case FILM: case FILM16: whole_film(); break;
+    case LOG: log_read(); break;
+    case APPEND: log_append(); break;
+    case STRIPS_START: strips_start(); break;
+    case STRIPS_ADD: case STRIPS_ADD16: strips_add(); break;
+    case STRIPS_END: strips_end(); break;
+    default: stop("an unknown kind of record");
+    }
+}
+
 /* By how many shifts from an even address byte lists begin, by turns. */
 enum { SHIFTS = 16 };
 
@@ -170,25 +177,7 @@ int main(void)
     signal(SIGBUS, faulted);
     for (enum kind kind; (kind = next_record()) != END;) {
         lend_place(record & 1, record / 2 % SHIFTS);
-        switch (kind) {
-        case SCALE: scale(); break;
-        case REDUCE: case REDUCE16: reduction(); break;
-        case PLANES: case PLANES16: planes(); break;
-        case INTRA: case INTRA16: intra(); break;
-        case THRESHOLDS: threshold(); break;
-        case HADAMARD: hadamard(); break;
-        case SATD: case SATD16: satd(); break;
-        case FRESH: detector_fresh(); break;
-        case STATE: detector_state(); break;
-        case STEP: detector_step(); break;
-        case FILM: case FILM16: whole_film(); break;
-        case LOG: log_read(); break;
-        case APPEND: log_append(); break;
-        case STRIPS_START: strips_start(); break;
-        case STRIPS_ADD: case STRIPS_ADD16: strips_add(); break;
-        case STRIPS_END: strips_end(); break;
-        default: stop("an unknown kind of record");
-        }
+        compare(kind);
     }
     if (word() != record - 1) stop("the number of records is not the one announced");
     printf("compared: %" PRIu64 " detector calls, %" PRIu64 " with a score, and %" PRIu64 " cuts, %" PRIu64 " by the decision rule\n",

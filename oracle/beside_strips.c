@@ -1,5 +1,6 @@
 /* The strips' part of the comparison: start, strips, end. */
 #include "beside_strips.h"
+#include "beside_plane.h"
 #include "brinepulley.h"
 #include "cases.h"
 #include "lend.h"
@@ -47,28 +48,10 @@ static struct kept kept(void)
     return k;
 }
 
-struct strip {
-    uint64_t width, height, stride, origin;
-    const void *samples;
-    size_t len;
-    void *lent;
-};
-
-static struct strip strip(enum slot slot)
-{
-    const uint64_t *n = words(4);
-    struct strip s = {n[0], n[1], n[2], n[3], NULL, 0, NULL};
-    s.samples = samples(&s.len);
-    s.lent = lend_list(slot, s.samples, s.len * sample_bytes, sample_bytes);
-    return s;
-}
-
-#define AS_LENT(s) (s).lent, (s).len, (s).width, (s).height, (s).stride, (s).origin
-
 void strips_add(void)
 {
     struct kept given = kept();
-    struct strip a = strip(FIRST), b = strip(SECOND);
+    struct plane a = plane(FIRST), b = plane(SECOND);
     int64_t due = answer();
     struct kept after = kept();
     uint64_t *lent = lend_list(NUMBERS, given.carry, given.carry_len * sizeof *given.carry, 8);

@@ -1,6 +1,6 @@
 //! Cases from a seed with the crate's answers, as a stream of words on the standard output.
 //!   oracle SEED COUNT       COUNT detector calls that the crate answers, COUNT / 10 measures of each kind at least; and as many
-//!                           again of 10 and 12 bits
+//!                           again of 10 and 12 bits; COUNT / 20 films that come in strips, of either word
 //!   oracle list SEED            the fixed list, as text
 //!   oracle film SEED FOLDER     a film for the command `brinepulley decide`, with the words to give it
 //!   oracle decided SEED         compares what the command wrote, from the standard input, with what the crate finds

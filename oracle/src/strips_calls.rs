@@ -6,20 +6,14 @@ use crate::plane_cases::{lent, picture};
 use crate::random::Random;
 use crate::sample::{Sample, most};
 use crate::sizes::CARRY;
-use crate::strips_cases::{add_of, end_of, kept, start_of, strip};
-use crate::strips_reading::{DEPTH, DIFFERENCE, HEIGHT, HELD, Kept, ROWS, STRIP, TOTAL, WIDTH, largest};
+use crate::strips_cases::{Call, add_of, end_of, kept, start_of, strip};
+use crate::strips_reading::{DEPTH, DIFFERENCE, HEIGHT, HELD, ROWS, STRIP, TOTAL, WIDTH, largest};
 
 /// Depths that are none, and the three: which of these suits is the word's matter.
 const DEPTHS: [u64; 12] = [0, 7, 8, 8, 9, 10, 10, 11, 12, 12, 16, u64::MAX];
 const SIDES: [u64; 4] = [0, 8193, 1 << 32, u64::MAX];
 /// How many refusals an add has, one behind the other.
 const ORDER: u64 = 10;
-
-struct Call<T> {
-    kept: Kept<T>,
-    a: Lent<T>,
-    b: Lent<T>,
-}
 
 /// A total of so many samples, at most as large as at one of the depths: at its edge, or anywhere below.
 fn total(r: &mut Random, depth: u64, samples: u64) -> u64 {

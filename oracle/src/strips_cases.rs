@@ -14,6 +14,13 @@ use crate::tally::Ran;
 
 type Scenes<T> = scenes::SceneChangeDetector<T>;
 
+/// A call of a strip: what is kept, and both strips.
+pub struct Call<T> {
+    pub kept: Kept<T>,
+    pub a: Lent<T>,
+    pub b: Lent<T>,
+}
+
 /// The answer that is due, counted.
 fn answer(desk: &mut Desk, due: Result<u64, u32>) -> i64 {
     match due {

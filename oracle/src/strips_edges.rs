@@ -1,5 +1,5 @@
-//! Strips at the edges, whatever the seed draws: each refusal by itself, two that are neighbours, of which the first is due, and
-//! rooms that hold what is no sample.
+//! Strips at the edges, whatever the seed draws: each refusal by itself, each with each that is tested behind it, of which the first
+//! is due, and rooms that hold what is no sample.
 use crate::deep_cases::LARGEST;
 use crate::desk::Desk;
 use crate::edges::flat;
@@ -7,7 +7,7 @@ use crate::measures_reading::Lent;
 use crate::random::Random;
 use crate::sample::{Sample, most};
 use crate::sizes::CARRY;
-use crate::strips_cases::{add_of, end_of, film_of, start_of};
+use crate::strips_cases::{Call, add_of, end_of, film_of, start_of};
 use crate::strips_reading::{self as read, DEPTH, DIFFERENCE, HEIGHT, Kept, ROWS, TOTAL, WIDTH, fault};
 
 /// Frames of 17 × 20: two blocks in a row, two rows of blocks and four rows below them.
@@ -17,13 +17,6 @@ const BLOCKS: usize = 4;
 /// Five rows have come, and three are to come: with them a row of blocks is whole.
 const COME: u64 = 5;
 const NEXT: u64 = 3;
-
-#[derive(Clone)]
-struct Call<T> {
-    kept: Kept<T>,
-    a: Lent<T>,
-    b: Lent<T>,
-}
 
 /// A sound call. The two frames differ by one in every sample, and so do the rows that are held.
 fn sound<T: Sample>(depth: u64) -> Call<T> {
