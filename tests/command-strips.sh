@@ -24,6 +24,8 @@ while read -r width height depth; do
     what="$width × $height of $depth bits"
     same "$what, fast" $all "$strips" --csv
     same "$what, standard" $all "$strips" --csv --mode standard --inter "$costs"
+    [ "$whole_status" = 0 ] && [ "$(wc -l < "$room/whole-out")" -gt 10 ]
+    verdict "$what: decided" $?
 done << 'END'
 65 47 8
 33 7 8
@@ -44,13 +46,18 @@ film swell 65 47 8 1 20 24 21 26 22 110 107 112 108 111 60 62 61 64 66 > "$strip
 command_run decide "$strips" --csv --mode standard --inter "$costs" --strips 13
 [ "$status" = 0 ] && awk -F, 'NR > 2 && $7 != "" { seen[$4 "," $7] = 1 } END { for (k in seen) n++; exit !(n >= 10) }' "$room/out"
 verdict "importances and thresholds differ from frame to frame" $?
+for frames in 50 '50 90' '50 90 91 92 93'; do
+    # shellcheck disable=SC2086 # frames
+    film swell 20 19 8 1 $frames > "$room/short.y4m"
+    same "strips, a film of the frames $frames" 1,5,64 "$room/short.y4m" --csv
+done
 for words in --bars '--dump --csv' --cuts '--times --purge' '--mode none --max 4' '--first 77 --min 3' '--lookahead 2 --csv'; do
     # shellcheck disable=SC2086 # words
     same "strips, $words" 5 "$strips" $words
 done
-$RUN "$COMMAND" decide - --csv --strips=13 < "$strips" > "$room/out" 2> "$room/err"
+cat "$strips" | $RUN "$COMMAND" decide - --csv --strips=13 > "$room/out" 2> "$room/err"
 $RUN "$COMMAND" decide "$strips" --csv 2> /dev/null | cmp -s - "$room/out"
-verdict "strips from the standard input" $?
+verdict "strips from a pipe" $?
 rm -f "$room/whole.log" "$room/strips.log"
 command_run decide "$strips" --mode standard --inter "$costs" --log "$room/whole.log"
 command_run decide "$strips" --mode standard --inter "$costs" --log "$room/strips.log" --strips 7

@@ -43,8 +43,8 @@ for word in YUV4MPEG2 'FRAME\x0a' ' W16' ' H16' ' W8192' ' H8193' ' F1:600' ' F3
     ' C420' jpeg mpeg2 paldv ' C422' ' C444' ' Cmono' ' C420p10' p12 ' Cmono12' alpha ' XNOTE=' ' XYSCSS=' ' Itpp' 'P5 ' '# \x0a' '255\x0a' \
     '1023\x0a' '4095\x0a' \
     18446744073709551615 4294967296 e308 nan -inf 0x1p 1e-400 SC '\x0a' decide measure demo --help --version -h --mode --lookahead \
-    --min --max --first --strips --inter --log --csv --purge --times --cuts --bars --dump fast standard none film.y4m costs.txt a.pgm b.pgm scores.log \
-    new.log -- - =; do
+    --min --max --first --strips --inter --log --csv --purge --times --cuts --bars --dump fast standard none film.y4m costs.txt \
+    a.pgm b.pgm scores.log new.log -- - =; do
     printf '"%s"\n' "$word"
 done > "$place/words"
 

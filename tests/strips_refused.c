@@ -1,4 +1,4 @@
-/* What start, add and end of strips refuse, in which order, and that nothing is changed then. */
+/* What a strip is refused for, in which order, and that nothing is changed then. */
 #include "strips.h"
 
 #include <string.h>

@@ -29,7 +29,7 @@ static bool make_room(struct gauge *gauge)
 
 /* Fetches a frame into `now`, reduced; *ended where there is none. A frame of two bytes a sample is reduced by a factor of 1 too,
    which copies it: so the library looks at its samples as soon as it is there, in every mode, and it is known which frame is at
-   fault. By strips a frame is measured as it comes, and is never whole. */
+   fault. By strips a frame is measured as it comes, over the one before, whose place it takes. */
 static enum status fetch(struct gauge *gauge, bool *ended)
 {
     struct film *film = gauge->film;
