@@ -11,7 +11,8 @@
  *    1  a side of a plane is 0 or above 8,192, or its stride is below its width; a side is below the factor by which it is to
  *       be divided, so that the reduced side would be 0
  *    2  a plane needs more samples than were lent; a list or a block has another length than it must have
- *    3  two planes differ in width or height; a plane to reduce into has other sides than the reduced ones
+ *    3  two planes differ in width or height; a plane to reduce into has other sides than the reduced ones; strips have another
+ *       width than their carry
  *    4  the cost list is shorter than the number of blocks, or the room of strips has fewer than 16 * width samples
  *    5  the depth is not 8, 10 or 12, or does not suit the plane's word: 8 goes with uint8_t, 10 and 12 with uint16_t
  *    6  a side of the resolution is outside 1 to 8,192, or the mode is not 0, 1 or 2; a factor is none of 1, 2, 4, 8, 16 and 32
@@ -203,7 +204,7 @@ int64_t brine_satd8x8_16(const uint16_t *first, size_t first_len, const uint16_t
  *         return brine_threshold(costs, blocks, blocks, threshold);
  *     }
  */
-#define BRINE_CARRY 6
+#define BRINE_CARRY 6   /* width, height, depth, rows, difference, importance total */
 
 /* Begins two frames of width * height samples of that depth. Returns 0, and the carry says that no row has come.
  * Refusals: 11, where carry_len is not BRINE_CARRY; 5, where the depth is none of 8, 10 and 12; 1, where a side is 0 or above
@@ -216,7 +217,7 @@ int64_t brine_strips_start(uint32_t depth, size_t width, size_t height, uint64_t
  *   - row y of the first frame to room[(y % 8) * width] and on, row y of the second to room[(8 + y % 8) * width] and on;
  *   - once row 8 * k + 7 is there, the costs of row k of the second frame's blocks, from costs[k * (width / 8)] on.
  * The rest of the room and of the costs stays. Carry, room and costs overlap neither each other nor a strip. A strip of 0 rows
- * writes nothing; it may come at any time, after the last row too.
+ * changes nothing; it may come at any time, after the last row too.
  * Rubbish in the room is no fault and no refusal. What stood there before the first row bears on nothing. What a caller writes
  * over rows of a row of blocks that is not finished bears on that row of blocks alone. If a sample of it is at or above 2 to the
  * depth, that row adds nothing to the importance total; if such a sample is in the second frame's half, the row's costs stay as
