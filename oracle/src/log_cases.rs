@@ -3,7 +3,6 @@ use crate::desk::Desk;
 use crate::log_reading::{self as reading, Log, MARK, RECORD, Record};
 use crate::random::Random;
 use crate::stream::Kind;
-use crate::tally::Ran;
 
 /// What lent places hold before a call: a frame number, the bits of a float, a cut byte, a byte of the log.
 const NUMBER: u32 = 0x8899_aabb;
@@ -132,16 +131,7 @@ pub fn read(desk: &mut Desk, r: &mut Random, most: u64) {
 
 /// The answer that is due, counted.
 fn answer(desk: &mut Desk, due: Result<u64, u32>) -> i64 {
-    match due {
-        Ok(number) => {
-            desk.tally.read_logs += 1;
-            number as i64
-        }
-        Err(fault) => {
-            desk.tally.refusal(fault, Ran::NotAsked);
-            -i64::from(fault)
-        }
-    }
+    desk.tally.read(due, |tally| &mut tally.read_logs)
 }
 
 /// How many records.

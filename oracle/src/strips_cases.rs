@@ -10,7 +10,6 @@ use crate::sample::Sample;
 use crate::sizes::CARRY;
 use crate::stream::Kind;
 use crate::strips_reading::{self as read, HELD, Kept, ROWS, STRIP, WIDTH};
-use crate::tally::Ran;
 
 type Scenes<T> = scenes::SceneChangeDetector<T>;
 
@@ -23,16 +22,7 @@ pub struct Call<T> {
 
 /// The answer that is due, counted.
 fn answer(desk: &mut Desk, due: Result<u64, u32>) -> i64 {
-    match due {
-        Ok(number) => {
-            desk.tally.strip_calls += 1;
-            number as i64
-        }
-        Err(fault) => {
-            desk.tally.refusal(fault, Ran::NotAsked);
-            -i64::from(fault)
-        }
-    }
+    desk.tally.read(due, |tally| &mut tally.strip_calls)
 }
 
 pub fn start_of(desk: &mut Desk, depth: u64, width: u64, height: u64, carry: &mut [u64]) {

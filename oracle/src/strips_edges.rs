@@ -27,20 +27,14 @@ fn sound<T: Sample>(depth: u64) -> Call<T> {
     Call { kept: Kept { carry, room, costs: vec![9; BLOCKS] }, a: flat(WIDE, NEXT, middle), b: flat(WIDE, NEXT, middle + 1) }
 }
 
-/// The reading is asked all the same, so that a mutant of it makes a list, which is wrong here.
-fn is_due(desk: &mut Desk, is_due: bool) {
-    if !is_due {
-        desk.tally.differs("another answer of strips is due");
-    }
-}
-
 type Change<T> = fn(&mut Call<T>);
 
-/// The sound call with some changes, and the refusal that is due.
+/// The sound call with some changes, and the refusal that is due. The reading is asked all the same, so that a mutant of it makes a
+/// list, which is wrong here.
 fn add<T: Sample>(desk: &mut Desk, depth: u64, changes: &[Change<T>], due: u32) {
     let mut c = sound(depth);
     changes.iter().for_each(|change| change(&mut c));
-    is_due(desk, fault(&read::add_order(&c.kept, &c.a, &c.b)) == due);
+    desk.tally.due(fault(&read::add_order(&c.kept, &c.a, &c.b)) == due);
     add_of(desk, &c.kept, &c.a, &c.b);
 }
 
@@ -105,7 +99,7 @@ fn carries<T: Sample>(desk: &mut Desk, depth: u64) {
         let mut c = sound::<T>(depth);
         (c.kept.carry[DEPTH], c.kept.carry[TOTAL]) = (depth_of_carry, COME * WIDE * total);
         let due = if (depth_of_carry, total) == (8, 4095) { 11 } else { 5 };
-        is_due(desk, fault(&read::add_order(&c.kept, &c.a, &c.b)) == due);
+        desk.tally.due(fault(&read::add_order(&c.kept, &c.a, &c.b)) == due);
         add_of(desk, &c.kept, &c.a, &c.b);
     }
 }
@@ -129,7 +123,7 @@ fn rows<T: Sample>(desk: &mut Desk, depth: u64) {
         let (mut c, long) = (sound::<T>(depth), flat(1, height, 7));
         (c.a, c.b, c.kept.costs) = (long.clone(), long, vec![]);
         (c.kept.carry[WIDTH], c.kept.carry[HEIGHT], c.kept.carry[DIFFERENCE]) = (1, 200, 0);
-        is_due(desk, fault(&read::add_order(&c.kept, &c.a, &c.b)) == due);
+        desk.tally.due(fault(&read::add_order(&c.kept, &c.a, &c.b)) == due);
         add_of(desk, &c.kept, &c.a, &c.b);
     }
 }
@@ -151,7 +145,7 @@ fn rooms(desk: &mut Desk, depth: u64) {
         c.kept.room.push(0);
         c.kept.room[at] = if at % 2 == 0 { 1 << depth } else { LARGEST as u16 };
         let after = add_of(desk, &c.kept, &c.a, &c.b);
-        is_due(desk, after.carry[TOTAL] == 2 * total && (after.costs[..2] != [9, 9]) == (costs == 1));
+        desk.tally.due(after.carry[TOTAL] == 2 * total && (after.costs[..2] != [9, 9]) == (costs == 1));
     }
 }
 
@@ -167,7 +161,7 @@ fn starts(desk: &mut Desk, depth: u64) {
         (CARRY - 1, 9, 1, 1, 11),
         (CARRY + 1, depth, 1, 1, 11),
     ] {
-        is_due(desk, fault(&read::start_order(depth, width, height, len)) == due);
+        desk.tally.due(fault(&read::start_order(depth, width, height, len)) == due);
         start_of(desk, depth, width, height, &mut vec![7; len]);
     }
 }
@@ -191,7 +185,7 @@ fn ends(desk: &mut Desk, depth: u64) {
         (vec![WIDE, HIGH, depth, HIGH, 0], 11),
         (vec![WIDE, HIGH, depth, HIGH, 0, 0, 0], 11),
     ] {
-        is_due(desk, fault(&read::end_order(&carry)) == due);
+        desk.tally.due(fault(&read::end_order(&carry)) == due);
         end_of(desk, &carry);
     }
 }
@@ -232,7 +226,7 @@ pub fn large<T: Sample>(desk: &mut Desk) {
             costs: vec![7; 1 << 20],
         };
         let after = add_of(desk, &kept, &flat(8192, 1, 0), &flat(8192, 1, most(depth)));
-        is_due(desk, after.carry[DIFFERENCE] == 8192 * 8192 * most(depth));
+        desk.tally.due(after.carry[DIFFERENCE] == 8192 * 8192 * most(depth));
         end_of(desk, &after.carry);
     }
 }

@@ -43,6 +43,20 @@ impl Tally {
         self.refused.entry(number).or_default()[ran as usize] += 1;
     }
 
+    /// The answer to a call that the reading alone answers; `accepted` counts those that are accepted.
+    pub fn read(&mut self, due: Result<u64, u32>, accepted: fn(&mut Self) -> &mut u64) -> i64 {
+        match due {
+            Ok(number) => {
+                *accepted(self) += 1;
+                number as i64
+            }
+            Err(fault) => {
+                self.refusal(fault, Ran::NotAsked);
+                -i64::from(fault)
+            }
+        }
+    }
+
     /// The refusals of a call in their order, and which of them apply.
     pub fn order(&mut self, call: &'static str, order: &[(u32, bool)]) {
         for (at, both) in order.windows(2).enumerate() {
@@ -66,10 +80,10 @@ impl Tally {
         }
     }
 
-    /// Whether the refusal that is due at an edge was given.
+    /// Whether the answer that is due at an edge was given.
     pub fn due(&mut self, is_due: bool) {
         if !is_due {
-            self.differs("another refusal is due");
+            self.differs("another answer is due");
         }
     }
 
