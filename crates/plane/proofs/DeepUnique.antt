@@ -19,6 +19,8 @@ use Rattle.plane.proofs.deep.sample_fault.Kinds as sample-fault-kinds
 use Rattle.plane.proofs.deep.sample_fault.Reads as sample-fault-reads
 use Rattle.plane.proofs.deep.shapes_fault.Kinds as shapes-fault-kinds
 use Rattle.plane.proofs.deep.shapes_fault.Reads as shapes-fault-reads
+use Rattle.plane.proofs.deep.blocks_fault.Kinds as blocks-fault-kinds
+use Rattle.plane.proofs.deep.blocks_fault.Reads as blocks-fault-reads
 
 pub is-deep-unique : OneOutcome 0 is-deep-kinds.ps is-deep-kinds.r Bool (λ κs r e. r) is-deep-reads.Post
 is-deep-unique κs a r r′ e e′ p q = p ∙ sym q
@@ -40,3 +42,6 @@ sample-fault-unique κs a r r′ e e′ p q = p ∙ sym q
 
 pub shapes-fault-unique : OneOutcome 0 shapes-fault-kinds.ps shapes-fault-kinds.r ℕ (λ κs r e. r) shapes-fault-reads.Post
 shapes-fault-unique κs a r r′ e e′ p q = p ∙ sym q
+
+pub blocks-fault-unique : OneOutcome 0 blocks-fault-kinds.ps blocks-fault-kinds.r ℕ (λ κs r e. r) blocks-fault-reads.Post
+blocks-fault-unique κs a r r′ e e′ p q = p ∙ sym q

@@ -190,16 +190,15 @@ module _ (test : Bool) (value : ℕ) (r : Whole) (e : wholeAnswer r ≡ answered
       by-case true q = refl
       by-case false q = let z : _≡_ {A = ℕ} 0 1 = cc in absurd (omega arith)
 
--- with bytes the shapes decide
+-- with bytes the samples decide nothing: what is refused before 16 is all that is refused
 pub bytes-refused : (depth : ℕ) (p : Plane) (a : List ℕ) (q : Plane) (b : List ℕ)
     → ((i : ℕ) → getD a i 0 ≤ byteMost) → ((i : ℕ) → getD b i 0 ≤ byteMost)
-    → (r : ℕ) → r ≡ shapesFault byte depth p (length a) q (length b) → r ≡ pairFault byte depth p a q b
-unfolding pairFault
-bytes-refused depth p a q b l m r e = go (eqb r 0) (eqb-true r 0) (eqb-false r 0)
+    → (r f : ℕ) → r ≡ f → (f ≡ 0 → suits byte depth ≡ true) → r ≡ f orElse refusal 16 (tooLarge depth p a || tooLarge depth q b)
+bytes-refused depth p a q b l m r f e depth-is = go (eqb r 0) (eqb-true r 0) (eqb-false r 0)
   where
-    go : (t : Bool) → (t ≡ true → r ≡ 0) → (t ≡ false → r ≡ 0 → ⊥) → r ≡ shapesFault byte depth p (length a) q (length b) orElse refusal 16 (tooLarge depth p a || tooLarge depth q b)
+    go : (t : Bool) → (t ≡ true → r ≡ 0) → (t ≡ false → r ≡ 0 → ⊥) → r ≡ f orElse refusal 16 (tooLarge depth p a || tooLarge depth q b)
     go true is isn't =
         let none = sym (is refl) ∙ e in
-        let s = suited byte depth (by-shapes byte depth p (length a) q (length b) (sym none) .0) in
+        let s = depth-is (sym none) in
         or-later r _ _ none (rw (bytes-pass depth p a s l, bytes-pass depth q b s m) (is refl))
     go false is isn't = or-given r _ _ e (isn't refl)

@@ -21,6 +21,10 @@ use Rattle.plane.proofs.shapes_fault.Kinds as shapes-fault-kinds
 use Rattle.plane.proofs.shapes_fault.Reads as shapes-fault-reads
 use Rattle.plane.proofs.pair_fault.Kinds as pair-fault-kinds
 use Rattle.plane.proofs.pair_fault.Reads as pair-fault-reads
+use Rattle.plane.proofs.block_fault.Kinds as block-fault-kinds
+use Rattle.plane.proofs.block_fault.Reads as block-fault-reads
+use Rattle.plane.proofs.blocks_fault.Kinds as blocks-fault-kinds
+use Rattle.plane.proofs.blocks_fault.Reads as blocks-fault-reads
 
 pub bad-side-unique : OneOutcome 0 bad-side-kinds.ps bad-side-kinds.r Bool (λ κs r e. r) bad-side-reads.Post
 bad-side-unique κs a r r′ e e′ p q = p ∙ sym q
@@ -46,3 +50,9 @@ shapes-fault-unique κs a r r′ e e′ p q = p ∙ sym q
 
 pub pair-fault-unique : OneOutcome 2 pair-fault-kinds.ps pair-fault-kinds.r ℕ (λ κs r e. r) pair-fault-reads.Post
 pair-fault-unique κs a r r′ e e′ p q = p ∙ sym q
+
+pub block-fault-unique : OneOutcome 0 block-fault-kinds.ps block-fault-kinds.r ℕ (λ κs r e. r) block-fault-reads.Post
+block-fault-unique κs a r r′ e e′ p q = p ∙ sym q
+
+pub blocks-fault-unique : OneOutcome 0 blocks-fault-kinds.ps blocks-fault-kinds.r ℕ (λ κs r e. r) blocks-fault-reads.Post
+blocks-fault-unique κs a r r′ e e′ p q = p ∙ sym q

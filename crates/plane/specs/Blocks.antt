@@ -1,12 +1,13 @@
 -- Document 01, "Importance" and "Intra cost": the whole 8×8 blocks of a plane. Block (x, y) is in row y of blocks and column x. A block is a
--- square of side 8; a plane is reduced by its squares of any side.
+-- square of side 8; a plane is reduced by its squares of any side. And document 02's refusal 19: there is no whole block.
 use Prim.Native.Nat.{ℕ, _+_, _*_, _/_}
 use mathlib.Core.Bool.{_&&_, cond}
 use mathlib.Core.List.{List}
-use lib.Dec.{ltb, leb}
+use lib.Dec.{ltb, leb, eqb}
+use Rattle.answer.specs.Refusal.{refusal, _orElse_}
 use Rattle.sums.specs.Sums.{sumBelow}
 use Rattle.plane.specs.declared.Plane.{Plane}
-use Rattle.plane.specs.Planes.{sampleAt, rowEnd}
+use Rattle.plane.specs.Planes.{sampleAt, rowEnd, Word, shapesFault}
 
 -- ---- squares
 
@@ -44,3 +45,13 @@ blocksStart p y = p .origin + y * blockSide * p .stride
 -- where row y of blocks starts over n samples: n where there is no such row, or where its first row of samples does not lie within them
 unfoldable pub blockRow : Plane → ℕ → ℕ → ℕ
 blockRow p n y = cond (ltb y (blocksDown p) && leb (rowEnd p (y * blockSide)) n) (blocksStart p y) n
+
+-- ---- 19
+
+-- "no block", where there are so many whole ones
+unfoldable pub blockFault : ℕ → ℕ
+blockFault count = refusal 19 (eqb count 0)
+
+-- two planes that are measured by their whole blocks, by their shapes: 19 is "tested after 3"
+unfoldable pub blocksFault : Word → ℕ → Plane → ℕ → Plane → ℕ → ℕ
+blocksFault word depth p n q m = shapesFault word depth p n q m orElse blockFault (blockCount p)

@@ -1,5 +1,6 @@
 // Planes of samples in words of 16 bits. What is new beside the functions for bytes is the look at the samples, which a byte does not
 // need.
+use crate::BLOCK_SIDE;
 use crate::Plane;
 ghost use mathlib.Core.Bool.{true};
 ghost use mathlib.Core.Path.{_≡_};
@@ -7,6 +8,7 @@ ghost use Prim.Native.Nat.{ℕ, _^_};
 ghost use lib.Dec.{leb};
 ghost use lib.ListN.{length, getD};
 ghost use Rattle.sums.specs.Any.{anyBelow};
+ghost use Rattle.plane.specs.Blocks.{blocksFault};
 ghost use Rattle.plane.specs.Planes.{rowOf, planeFault, deep, suits, wordFault, tooLarge, rowsLarge, sampleFault, shapesFault};
 
 // The depths that samples of 16 bits may have.
@@ -105,4 +107,15 @@ pub fn shapes_fault(depth: u64, p: Plane, n: usize, q: Plane, m: usize) -> u32
         return fault;
     }
     crate::sizes_fault(p, n, q, m)
+}
+
+// The refusal of two planes that are measured by their whole blocks, or 0: by their shapes, and 19 where they have none.
+pub fn blocks_fault(depth: u64, p: Plane, n: usize, q: Plane, m: usize) -> u32
+    ensures { λ r. ⌜ r ≡ blocksFault deep depth p n q m ⌝ }
+{
+    let fault = shapes_fault(depth, p, n, q, m);
+    if fault != 0 {
+        return fault;
+    }
+    crate::block_fault((p.height / BLOCK_SIDE) * (p.width / BLOCK_SIDE))
 }

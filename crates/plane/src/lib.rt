@@ -2,7 +2,7 @@
 ghost use mathlib.Core.Path.{_≡_};
 ghost use Prim.Native.Nat.{_*_};
 ghost use lib.Dec.{leb};
-ghost use Rattle.plane.specs.Blocks.{blockRow};
+ghost use Rattle.plane.specs.Blocks.{blockRow, blockFault, blocksFault};
 ghost use Rattle.plane.specs.Needs.{SpanOf};
 ghost use Rattle.plane.specs.Planes.{badSide, rowEnd, rowOf, planeFault, sizesFault, byte, depthFault, wordFault, shapesFault, pairFault};
 
@@ -182,4 +182,22 @@ pub fn pair_fault(depth: u64, p: Plane, a: &[u8], q: Plane, b: &[u8]) -> u32
     ensures { λ r. ⌜ r ≡ pairFault byte depth p (now (a .entry)) q (now (b .entry)) ⌝ }
 {
     shapes_fault(depth, p, a.len(), q, b.len())
+}
+
+// Refusal 19 where there is no whole block, or 0.
+pub fn block_fault(count: usize) -> u32
+    ensures { λ r. ⌜ r ≡ blockFault count ⌝ }
+{
+    if count == 0 { 19 } else { 0 }
+}
+
+// The refusal of two planes of bytes that are measured by their whole blocks, or 0: by their shapes, and 19 where they have none.
+pub fn blocks_fault(depth: u64, p: Plane, n: usize, q: Plane, m: usize) -> u32
+    ensures { λ r. ⌜ r ≡ blocksFault byte depth p n q m ⌝ }
+{
+    let fault = shapes_fault(depth, p, n, q, m);
+    if fault != 0 {
+        return fault;
+    }
+    block_fault((p.height / BLOCK_SIDE) * (p.width / BLOCK_SIDE))
 }
