@@ -6,16 +6,16 @@ use native.Mathlib.Omega.{arith}
 use lib.ListN.{length, getD, take, drop}
 use Rattle.plane.specs.Blocks.{blockSide, blocksAcross, blocksDown, blockCount, blockRow}
 use Rattle.plane.specs.Needs.{blockStart, rowFrom, squareFrom}
-use Rattle.plane.specs.Planes.{Word, sizesFault, pairFault}
+use Rattle.plane.specs.Planes.{Word, sizesFault}
 use Rattle.plane.specs.declared.Plane.{Plane}
 use Rattle.plane.proofs.BlockLaws.{count-most, row-starts, block-from}
 use Rattle.plane.proofs.PlaneLaws.{Pair, pair, total-fits}
-use Rattle.plane.proofs.SampleLaws.{measured}
 use Rattle.plane.proofs.SquareLaws.{part-sum, row-next, square-next, square-is, square-most}
 use Rattle.sums.specs.Sums.{sumBelow, apart}
 use Rattle.sums.proofs.MeanLaws.{mean-most}
 use Rattle.sums.proofs.SumLaws.{sum-ext, sum-most, sum-to, NextSum, next-sum}
-use Rattle.importance.specs.Importance.{blockSum, mean, blockDifference, blocksDifference, importanceTotal}
+use Rattle.importance.specs.Importance.{blockSum, mean, blockDifference, blocksDifference, importanceTotal, importanceFault}
+use Rattle.importance.proofs.Refusals.{one-size}
 
 -- ---- one block
 
@@ -155,8 +155,8 @@ module _ (k : ℕ) (p : Plane) (a : List ℕ) (q : Plane) (b : List ℕ) (l : (i
   totals-most n = sum-most (blocksAcross p * k) n (blocksDifference p a q b) (λ y _. differences-most y (blocksAcross p))
 
   -- all blocks of two planes that are not refused
-  pub total-most : (word : Word) (depth : ℕ) → k < 2 ^ 16 → pairFault word depth p a q b ≡ 0 → importanceTotal p a q b < 2 ^ 42
+  pub total-most : (word : Word) (depth : ℕ) → k < 2 ^ 16 → importanceFault word depth p a q b ≡ 0 → importanceTotal p a q b < 2 ^ 42
   unfolding importanceTotal
   total-most word depth s e =
-      let f = pair p (length a) q (length b) (measured word depth p a q b e) .first in
+      let f = pair p (length a) q (length b) (one-size word depth p a q b e) .first in
       omega (arith, totals-most (blocksDown p), total-fits (blocksDown p) (blocksAcross p) k (omega arith) (omega arith) s)

@@ -1,3 +1,4 @@
+pub mod Refusals
 pub mod BlockSums
 pub mod FourRows
 pub mod RowLooks

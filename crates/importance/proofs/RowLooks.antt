@@ -11,17 +11,18 @@ use Rattle.answer.specs.Answer.{Answer, gives, refused, answered, wholeAnswer}
 use Rattle.answer.specs.Refusal.{refusal}
 use Rattle.answer.specs.declared.Whole.{Whole}
 use Rattle.answer.specs.declared.Whole.the-variants as whole
-use Rattle.answer.proofs.Laws.{or-given, test-given, test-passed, answer-given, answer-refused}
-use Rattle.plane.specs.Blocks.{blockSide, blocksDown}
-use Rattle.plane.specs.Planes.{deep, rowsLarge, tooLarge, sizesFault, shapesFault, pairFault, pairAnswer}
+use Rattle.answer.proofs.Laws.{test-given, test-passed, answer-given, answer-refused}
+use Rattle.plane.specs.Blocks.{blockSide, blocksDown, blocksFault}
+use Rattle.plane.specs.Planes.{deep, rowsLarge, tooLarge, sizesFault}
 use Rattle.plane.specs.declared.Plane.{Plane}
 use Rattle.plane.proofs.PlaneLaws.{pair}
-use Rattle.plane.proofs.SampleLaws.{largeIn, rows-are, pair-fault-is}
+use Rattle.plane.proofs.SampleLaws.{largeIn, rows-are}
 use Rattle.sums.specs.Any.{anyBelow}
 use Rattle.sums.specs.Sums.{sumBelow}
 use Rattle.sums.proofs.AnyLaws.{any-zero, any-or, any-cut}
 use Rattle.sums.proofs.SumLaws.{sum-none, sum-to}
-use Rattle.importance.specs.Importance.{blocksDifference, importanceTotal}
+use Rattle.importance.specs.Importance.{blocksDifference, importanceTotal, importanceFault}
+use Rattle.importance.proofs.Refusals as refusals
 use Rattle.importance.proofs.BlockSums.{rows-next}
 
 -- whether an answer is a number, and which
@@ -104,16 +105,15 @@ module _ (depth : ℕ) (p : Plane) (a : List ℕ) (q : Plane) (b : List ℕ) whe
           answer-given _ _ _ (test-passed 16 _ (sym look-all ∙ look-more from (p .height) d (omega arith) (omega arith) ∙ f))
           (sum-to total y (blocksDown p) (blocksDifference p a q b) (s .sum) e)
 
-  -- ---- what is answered then: the shapes come first
+  -- ---- what is answered then: shapes and blocks come first
 
-  pub shapes-refused : {A : Type 0} (v : A) (r : ℕ) → r ≡ shapesFault deep depth p (length a) q (length b) → (r ≡ 0 → ⊥) → refused r ≡ pairAnswer deep depth p a q b v
-  unfolding pairFault
-  shapes-refused v r e h = answer-refused r _ v (or-given r _ _ e h) h
+  pub shapes-refused : {A : Type 0} (v : A) (r : ℕ) → r ≡ blocksFault deep depth p (length a) q (length b) → (r ≡ 0 → ⊥) → refused r ≡ answered (importanceFault deep depth p a q b) v
+  shapes-refused v r e h = answer-refused r _ v (refusals.shapes-refused deep depth p a q b r e h) h
 
   -- where they pass the samples decide
-  module _ (e : 0 ≡ shapesFault deep depth p (length a) q (length b)) where
-    pub shapes-passed : {A : Type 0} (v : A) (r : Answer A) → r ≡ looked v → r ≡ pairAnswer deep depth p a q b v
-    shapes-passed v r d = d ∙ ap (λ (fault : ℕ). answered fault v) (pair-fault-is deep depth p a q b e)
+  module _ (e : 0 ≡ blocksFault deep depth p (length a) q (length b)) where
+    pub shapes-passed : {A : Type 0} (v : A) (r : Answer A) → r ≡ looked v → r ≡ answered (importanceFault deep depth p a q b) v
+    shapes-passed v r d = d ∙ ap (λ (fault : ℕ). answered fault v) (refusals.samples-decide deep depth p a q b e)
 
 -- ---- and on the quotient as on the total: a refusal is handed on, and a number is the total
 

@@ -108,15 +108,15 @@ fn all_differences(depth: u64, p: Plane, a: &[u16], q: Plane, b: &[u16]) -> Whol
 pub fn importance_total(depth: u64, p: Plane, a: &[u16], q: Plane, b: &[u16]) -> Whole
     ensures { λ r. ⌜ wholeAnswer r ≡ totalOf deep depth p (now (a .entry)) q (now (b .entry)) ⌝ }
 {
-    let fault = plane::deep::shapes_fault(depth, p, a.len(), q, b.len());
+    let fault = plane::deep::blocks_fault(depth, p, a.len(), q, b.len());
     if fault != 0 {
         return Whole::Refused(fault);
     }
     all_differences(depth, p, a, q, b)
 }
 
-// The importance of two planes: the total over the number of blocks, and with no block a NaN. It asks for the total as a caller does: so
-// the compiler has one place for the loops, and their stack is small.
+// The importance of two planes: the total over the number of blocks. It asks for the total as a caller does: so the compiler has one
+// place for the loops, and their stack is small.
 pub fn importance(depth: u64, p: Plane, a: &[u16], q: Plane, b: &[u16]) -> Real
     ensures { λ r. ⌜ realAnswer r ≡ importanceOf deep depth p (now (a .entry)) q (now (b .entry)) ⌝ }
 {

@@ -12,7 +12,7 @@ ghost use Rattle.plane.specs.Needs.{squareFrom};
 ghost use Rattle.plane.specs.Planes.{byte, sizesFault};
 ghost use Rattle.sums.specs.Needs.{byteMost};
 ghost use Rattle.sums.specs.Sums.{sumBelow, apart};
-ghost use Rattle.importance.specs.Importance.{mean, blocksDifference, importanceTotal, totalOf, importanceOf};
+ghost use Rattle.importance.specs.Importance.{mean, blocksDifference, importanceTotal, importanceFault, totalOf, importanceOf};
 
 pub mod deep;
 
@@ -83,22 +83,29 @@ fn all_differences(p: Plane, a: &[u8], q: Plane, b: &[u8]) -> u64
     total
 }
 
+// The refusal of two planes over their lent bytes, or 0. No byte is too large for its depth, so none is looked at.
+fn importance_fault(depth: u64, p: Plane, a: &[u8], q: Plane, b: &[u8]) -> u32
+    ensures { λ r. ⌜ r ≡ importanceFault byte depth p (now (a .entry)) q (now (b .entry)) ⌝ }
+{
+    plane::blocks_fault(depth, p, a.len(), q, b.len())
+}
+
 // The importance total of two planes, before the division.
 pub fn importance_total(depth: u64, p: Plane, a: &[u8], q: Plane, b: &[u8]) -> Whole
     ensures { λ r. ⌜ wholeAnswer r ≡ totalOf byte depth p (now (a .entry)) q (now (b .entry)) ⌝ }
 {
-    let fault = plane::pair_fault(depth, p, a, q, b);
+    let fault = importance_fault(depth, p, a, q, b);
     if fault != 0 {
         return Whole::Refused(fault);
     }
     Whole::Number(all_differences(p, a, q, b))
 }
 
-// The importance of two planes: the total over the number of blocks, and with no block a NaN.
+// The importance of two planes: the total over the number of blocks.
 pub fn importance(depth: u64, p: Plane, a: &[u8], q: Plane, b: &[u8]) -> Real
     ensures { λ r. ⌜ realAnswer r ≡ importanceOf byte depth p (now (a .entry)) q (now (b .entry)) ⌝ }
 {
-    let fault = plane::pair_fault(depth, p, a, q, b);
+    let fault = importance_fault(depth, p, a, q, b);
     if fault != 0 {
         return Real::Refused(fault);
     }

@@ -6,23 +6,23 @@ use lib.ListN.{length}
 use Rattle.answer.proofs.Laws.{answer-given, answer-refused}
 use Rattle.plane.specs.Blocks.{blockCount}
 use Rattle.plane.specs.Planes.{sizesFault}
-use Rattle.plane.proofs.SampleLaws.{measured}
 use Rattle.sums.specs.Quotient.{quotientOf}
 use Rattle.importance.proofs.BlockSums.{count-fits}
+use Rattle.importance.proofs.Refusals.{one-size}
 use Rattle.importance.proofs.importance.Statement.{statement}
 use Rattle.importance.proofs.importance.Tie as tie
 
-pair-fault-requires : tie.Need-pair-fault-requires
-pair-fault-requires c κs = search needs
+importance-fault-requires : tie.Need-importance-fault-requires
+importance-fault-requires c κs = search needs
 
 returns : tie.Need-returns
-returns c = answer-refused _ _ _ (c .before .pair-fault .ensures) (c .if1 .taken)
+returns c = answer-refused _ _ _ (c .before .importance-fault .ensures) (c .if1 .taken)
 
 -- past the test the planes are not refused
 sizes : (c : tie.Else1)
     → let s = c .before .before .before .before .args in
     sizesFault (s .p) (length (s .a .now)) (s .q) (length (s .b .now)) ≡ 0
-sizes c = measured _ _ _ _ _ _ (sym (c .before .pair-fault .ensures) ∙ c .if1 .left)
+sizes c = one-size _ _ _ _ _ _ (sym (c .before .importance-fault .ensures) ∙ c .if1 .left)
 
 all-differences-requires : tie.Need-all-differences-requires
 all-differences-requires c κs = sizes c
@@ -37,10 +37,10 @@ returns-2 : tie.Need-returns-2
 returns-2 c =
     let d = c .before .before .before in
     let p = d .before .before .before .before .before .args .p in
-    answer-given _ _ _ (sym (d .before .if1 .left) ∙ d .before .before .pair-fault .ensures)
+    answer-given _ _ _ (sym (d .before .if1 .left) ∙ d .before .before .importance-fault .ensures)
     (c .quotient .ensures ∙ ap (λ (total : ℕ). quotientOf total (blockCount p)) (d .all-differences .ensures))
 
 pub importance-spec : {M : Type 1} → statement M
 importance-spec =
     tie.close
-    (tie.spec pair-fault-requires returns all-differences-requires mul-count quotient-requires returns-2)
+    (tie.spec importance-fault-requires returns all-differences-requires mul-count quotient-requires returns-2)

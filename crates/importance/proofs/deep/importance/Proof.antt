@@ -5,11 +5,11 @@ use borrow.Author.Needs.{needs}
 use lib.ListN.{length}
 use Rattle.answer.proofs.Laws.{answer-given}
 use Rattle.plane.specs.Blocks.{blockCount}
-use Rattle.plane.specs.Planes.{deep, pairFault}
-use Rattle.plane.proofs.SampleLaws.{measured}
+use Rattle.plane.specs.Planes.{deep}
 use Rattle.sums.specs.Quotient.{quotientOf}
-use Rattle.importance.specs.Importance.{importanceTotal}
+use Rattle.importance.specs.Importance.{importanceTotal, importanceFault}
 use Rattle.importance.proofs.BlockSums.{count-fits}
+use Rattle.importance.proofs.Refusals.{one-size}
 use Rattle.importance.proofs.RowLooks.{handed-on, given}
 use Rattle.importance.proofs.deep.importance.Statement.{statement}
 use Rattle.importance.proofs.deep.importance.Tie as tie
@@ -17,14 +17,14 @@ use Rattle.importance.proofs.deep.importance.Tie as tie
 -- a total that is given says that nothing is refused
 passed : (c : tie.After-total)
     → let s = c .before .before .before .before .before .args in
-    (pairFault deep (s .depth) (s .p) (s .a .now) (s .q) (s .b .now) ≡ 0) × (c .total .given .0 .0 ≡ importanceTotal (s .p) (s .a .now) (s .q) (s .b .now))
+    (importanceFault deep (s .depth) (s .p) (s .a .now) (s .q) (s .b .now) ≡ 0) × (c .total .given .0 .0 ≡ importanceTotal (s .p) (s .a .now) (s .q) (s .b .now))
 passed c = given {A = ℕ} _ _ 0 _ (c .before .before .importance-total .ensures) _ (c .total .given .1)
 
 mul-count : tie.Need-mul-count
 mul-count c =
     let t = c .before .before .before in
     let s = t .before .before .before .before .before .args in
-    record { fits = count-fits (s .p) (length (s .a .now)) (s .q) (length (s .b .now)) (measured deep (s .depth) (s .p) (s .a .now) (s .q) (s .b .now) (passed t .0)) }
+    record { fits = count-fits (s .p) (length (s .a .now)) (s .q) (length (s .b .now)) (one-size deep (s .depth) (s .p) (s .a .now) (s .q) (s .b .now) (passed t .0)) }
 
 returns : tie.Need-returns
 returns c =
