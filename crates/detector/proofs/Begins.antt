@@ -48,10 +48,10 @@ module _ (s : View) (c : Call) (f : Fine s c) (later : lookaheadOffset (s .setti
   abbrev k : ℕ
   k = c .setLength
 
-  pub item-sound : (i : ℕ) → i < k - 1 → forbidden false (itemOf s c i .inter) ≡ false
+  pub item-sound : (i : ℕ) → i < k - 1 → forbidden (itemOf s c i .inter) ≡ false
   item-sound i h =
       let r = f .inter (ap not mode) in
-      none-at (forbidden false) (c .inter) i nan (omega (arith, r .long)) (r .allowed)
+      none-at forbidden (c .inter) i nan (omega (arith, r .long)) (r .allowed)
 
   -- refusal 9 is not given
   never : k ≡ 1 → lookaheadOffset g ≡ 0 → o ≡ 0 → ⊥

@@ -25,7 +25,7 @@ module _ (fast : Bool) (level : Float) (o n : ℕ) (item : ℕ → Measure) (l :
       let h = items-long k in
       score-long level o (n + k) (item k) (itemsOf fast level o n item k l) fast ∙ omega arith
 
-  pub items-sound : (k : ℕ) → ((i : ℕ) → i < k → forbidden false (item i .inter) ≡ false) → Sound l → Sound (itemsOf fast level o n item k l)
+  pub items-sound : (k : ℕ) → ((i : ℕ) → i < k → forbidden (item i .inter) ≡ false) → Sound l → Sound (itemsOf fast level o n item k l)
   items-sound zero f h = h
   items-sound (suc k) f h =
       score-sound level o (n + k) (item k) (itemsOf fast level o n item k l) fast (f k (omega arith)) (items-sound k (λ i g. f i (omega arith)) h)
@@ -53,7 +53,7 @@ pairs-order n zero = order-none 0
 pairs-order n (suc k) = order-next 0 (n + k) (pairsFrom n k) (λ h. sym (pairs-front n k h)) (pairs-order n k)
 
 -- the second time the cost is 0, which is allowed
-pub again-sound : (again : Bool) (m : Measure) → forbidden false (m .inter) ≡ false → forbidden false (againOf again m .inter) ≡ false
+pub again-sound : (again : Bool) (m : Measure) → forbidden (m .inter) ≡ false → forbidden (againOf again m .inter) ≡ false
 unfolding ofBits lt le eq
 again-sound true m h = refl
 again-sound false m h = h

@@ -1,7 +1,7 @@
 -- What the tests of refusal 10 say of a float, and what they say of a NaN. A float of the program fits binary64.
 -- Assumes nothing.
 use mathlib.Core.Path.{_≡_, refl, sym, ap, _∙_}
-use mathlib.Core.Bool.{Bool, true, false, not, _&&_, _||_, or-false, and-true, Bool·not-not}
+use mathlib.Core.Bool.{Bool, true, false, not, _&&_, _||_, and-true}
 use Prim.Native.Nat.{ℕ, zero, suc, _+_, _-_, _*_, _%_, _^_, _≤_, zero-le, _<_}
 use native.Mathlib.Nat.{zero-mul, mul-one, mul-assoc, mul-le-mul, mul-le-mul-left, mul-le-mul-right, lt-of-mul-lt-mul-right, le-trans, lt-of-lt-of-le, mul-pos, le-add-left}
 use native.Mathlib.Omega.{arith}
@@ -9,14 +9,14 @@ use borrow.Author.Tests.{lt-ltb, le-ltb, ltb-true, ltb-false, leb-true, leb-fals
 use lib.Dec.{T, eqb, ltb, leb, ltb→lt, lit<, lit≤}
 use lib.IntN.{ℤ, pos, negsuc}
 use lib.Pow.{pow-add, pow-pos, pow-mono, le-ones}
-use lib.Ieee.{Float, nan, inf, fin, binary64, ofBits, lt, le, eq, fits, isNan, up, down}
+use lib.Ieee.{Float, nan, inf, fin, binary64, ofBits, lt, le, eq, fits, up, down}
 use lib.Ieee.Fits.{and-l, and-r, down-pos}
 use Rattle.score.specs.Scores.{zeroF, maxF}
 use Rattle.score.specs.declared.ScenecutResult.{ScenecutResult}
 use Rattle.score.specs.Cut.{reached, over}
 use Rattle.score.specs.Costs.{forbidden}
 
--- ---- "a NaN must fail both tests": at or above, and below
+-- ---- "a NaN must fail both tests": at or above, and below. No list holds one, but a state from before may
 
 pub nan-fails-both : (t : Float) → (le t nan ≡ false) × (lt nan t ≡ false)
 unfolding le lt eq
@@ -105,36 +105,27 @@ module _ (m : ℕ) (e : ℤ) where
   zero-le-is false = le-by (0 * 1 * down e) (m * up e * 1)
   zero-le-is true = zero-by (0 * 1 * down e) (m * up e * 1) (zero-mul (down e))
 
-  pub max-le-is : (s : Bool) → T (fits binary64 (fin s m e)) → (le (fin s m e) maxF ≡ true) × (lt maxF (fin s m e) ≡ false)
+  pub max-le-is : (s : Bool) → T (fits binary64 (fin s m e)) → le (fin s m e) maxF ≡ true
   unfolding le lt eq ofBits
   max-le-is false h =
       let b : m * up e * 1 ≤ digits * 2 ^ 971 * down e = rw mul-one (bounded false m e h) in
-      let n = le-ltb (digits * 2 ^ 971 * down e) (m * up e * 1) b in
-      (le-by (m * up e * 1) (digits * 2 ^ 971 * down e) ∙ ap not n, n)
+      le-by (m * up e * 1) (digits * 2 ^ 971 * down e) ∙ ap not (le-ltb (digits * 2 ^ 971 * down e) (m * up e * 1) b)
   max-le-is true h =
       let p : 0 < digits * 2 ^ 971 * down e = mul-pos (lit< tt) (down-pos e) in
       let q : 0 < m * up e * 1 + digits * 2 ^ 971 * down e = lt-of-lt-of-le p (le-add-left (digits * 2 ^ 971 * down e) (m * up e * 1)) in
-      (rw (lt-ltb 0 (m * up e * 1 + digits * 2 ^ 971 * down e) q), refl)
+      rw (lt-ltb 0 (m * up e * 1 + digits * 2 ^ 971 * down e) q)
 
--- ---- refusal 10: "NaN, infinite or below 0", and "infinite or below 0 (NaN allowed)"
+-- ---- refusal 10: "NaN, infinite or below 0"
 
 abbrev pub finite : Float → Bool
 finite nan = false
 finite (inf s) = false
 finite (fin s m e) = true
 
--- an inter cost is allowed exactly when it is finite and not below 0
-pub cost-allowed : (x : Float) → T (fits binary64 x) → forbidden false x ≡ not (finite x && not (lt x zeroF))
+-- a number is allowed exactly when it is finite and not below 0
+pub cost-allowed : (x : Float) → T (fits binary64 x) → forbidden x ≡ not (finite x && not (lt x zeroF))
 unfolding le lt eq ofBits
 cost-allowed nan h = refl
 cost-allowed (inf true) h = refl
 cost-allowed (inf false) h = refl
-cost-allowed (fin s m e) h = rw (zero-le-is m e s, max-le-is m e s h .0) (ap not (and-true (not (lt (fin s m e) zeroF))))
-
--- an importance or a threshold is allowed exactly when it is a NaN, or finite and not below 0
-pub measure-allowed : (x : Float) → T (fits binary64 x) → forbidden true x ≡ not (isNan x || (finite x && not (lt x zeroF)))
-unfolding lt ofBits isNan
-measure-allowed nan h = refl
-measure-allowed (inf true) h = refl
-measure-allowed (inf false) h = refl
-measure-allowed (fin s m e) h = rw (max-le-is m e s h .1) (or-false (lt (fin s m e) zeroF) ∙ sym (Bool·not-not (lt (fin s m e) zeroF)))
+cost-allowed (fin s m e) h = rw (zero-le-is m e s, max-le-is m e s h) (ap not (and-true (not (lt (fin s m e) zeroF))))

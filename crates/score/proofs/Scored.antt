@@ -38,6 +38,6 @@ module _ (level : Float) (o pair : ℕ) (m : Measure) (l : List ScenecutResult) 
   pub score-kept : (fast : Bool) → length l < room → take room (scoreOf fast level o pair m l) ≡ scoreOf fast level o pair m l
   score-kept fast h = take-all room (scoreOf fast level o pair m l) (omega (arith, score-long fast))
 
-  pub score-sound : (fast : Bool) → forbidden false (m .inter) ≡ false → Sound l → Sound (scoreOf fast level o pair m l)
+  pub score-sound : (fast : Bool) → forbidden (m .inter) ≡ false → Sound l → Sound (scoreOf fast level o pair m l)
   score-sound true h k = none-of forbiddenEntry (fastScore level pair (m .inter)) l h k
   score-sound false h k = none-of forbiddenEntry (standardScore pair m (backOf o pair (m .inter) l)) (updatedOf o (m .inter) l) h (updated-same true o (m .inter) l ∙ k)

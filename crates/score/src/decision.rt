@@ -12,13 +12,10 @@ use super::F64_MAX;
 use super::ScenecutResult;
 use super::ScoreDeque;
 
-// Whether a number is one that refusal 10 forbids; some lists may hold NaNs.
-pub fn is_forbidden(nan_allowed: bool, x: f64) -> bool
-    ensures { λ r. ⌜ r ≡ forbidden «nan_allowed» x ⌝ }
+// Whether a number is one that refusal 10 forbids. A NaN fails both tests.
+pub fn is_forbidden(x: f64) -> bool
+    ensures { λ r. ⌜ r ≡ forbidden x ⌝ }
 {
-    if nan_allowed {
-        return (x < 0.0) | (x > F64_MAX);
-    }
     !((x >= 0.0) & (x <= F64_MAX))
 }
 
@@ -29,7 +26,7 @@ fn is_asked(importance: bool, t: f64, e: ScenecutResult) -> bool
     if importance {
         return e.imp_block_cost >= t;
     }
-    is_forbidden(false, e.inter_cost)
+    is_forbidden(e.inter_cost)
 }
 
 // Whether some entry from a place on is what is looked for.

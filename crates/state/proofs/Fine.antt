@@ -18,9 +18,9 @@ use Rattle.state.proofs.Tests.{and-right, not-both, not-eqb}
 use Rattle.state.proofs.Well.{Well, well, passes, state-same, settings-unfit}
 
 -- a list that is read
-pub record Read (nanAllowed : Bool) (items : ℕ) (l : List Float) : Type 0 where
+pub record Read (items : ℕ) (l : List Float) : Type 0 where
   pub long : length l ≡ items
-  pub allowed : holdsForbidden nanAllowed l ≡ false
+  pub allowed : holdsForbidden l ≡ false
 
 pub record Fine (s : View) (c : Call) : Type 0 where
   pub state : Well s
@@ -31,9 +31,9 @@ pub record Fine (s : View) (c : Call) : Type 0 where
   pub short : c .setLength ≤ setLimit
   pub shrinks : (s .lastNumber ≡ 0 → ⊥) → c .setLength ≤ s .lastLength
   pub goes : c .setLength ≡ 1 → lookaheadOffset (s .settings) ≡ 0 → s .offset ≡ 0 → isNone (s .settings) ≡ true
-  pub inter : readsInter (s .settings) ≡ true → Read false (c .setLength - 1) (c .inter)
-  pub importance : readsAll (s .settings) ≡ true → Read true (c .setLength - 1) (c .importance)
-  pub threshold : readsAll (s .settings) ≡ true → Read true (c .setLength - 1) (c .threshold)
+  pub inter : readsInter (s .settings) ≡ true → Read (c .setLength - 1) (c .inter)
+  pub importance : readsAll (s .settings) ≡ true → Read (c .setLength - 1) (c .importance)
+  pub threshold : readsAll (s .settings) ≡ true → Read (c .setLength - 1) (c .threshold)
 
 -- a test that is asked only where there was a last call
 abbrev hasLast : ℕ → Bool
@@ -46,13 +46,13 @@ was-no : (last : ℕ) → hasLast last ≡ true → last ≡ 0 → ⊥
 was-no last t = eqb-false last 0 (not-true (eqb last 0) t)
 
 -- a list
-list-read : (nanAllowed : Bool) (items : ℕ) (l : List Float) → badList nanAllowed items l ≡ false → Read nanAllowed items l
-list-read nanAllowed items l e =
-    let p = or-no (wrongLength items l) (holdsForbidden nanAllowed l) e in
+list-read : (items : ℕ) (l : List Float) → badList items l ≡ false → Read items l
+list-read items l e =
+    let p = or-no (wrongLength items l) (holdsForbidden l) e in
     record { long = not-eqb (length l) items (p .0); allowed = p .1 }
 
-list-good : (nanAllowed : Bool) (items : ℕ) (l : List Float) → Read nanAllowed items l → badList nanAllowed items l ≡ false
-list-good nanAllowed items l r =
+list-good : (items : ℕ) (l : List Float) → Read items l → badList items l ≡ false
+list-good items l r =
     let long : wrongLength items l ≡ false = ap not (eq-eqb (length l) items (r .long)) in
     rw (long, r .allowed)
 
@@ -88,10 +88,10 @@ fine s c e =
     let n2 = or-no (numberTooLarge n) _ (n1 .1) in
     let n3 = or-no (keyframeAhead n p) (outOfTurn last n) (n2 .1) in
     let l1 = or-no (setTooLong long) (setGrows last (s .lastLength) long) (passed 7 _ (r3 .0)) in
-    let rest = badList true k (c .importance) || badList true k (c .threshold) in
-    let d1 = or-no (readsInter g && badList false k (c .inter)) (readsAll g && rest) (passed 9 _ (r4 .1)) in
-    let d2 : readsAll g ≡ true → (badList true k (c .importance) ≡ false) × (badList true k (c .threshold) ≡ false)
-    = λ h. or-no (badList true k (c .importance)) _ (and-right (readsAll g) rest (d1 .1) h) in
+    let rest = badList k (c .importance) || badList k (c .threshold) in
+    let d1 = or-no (readsInter g && badList k (c .inter)) (readsAll g && rest) (passed 9 _ (r4 .1)) in
+    let d2 : readsAll g ≡ true → (badList k (c .importance) ≡ false) × (badList k (c .threshold) ≡ false)
+    = λ h. or-no (badList k (c .importance)) _ (and-right (readsAll g) rest (d1 .1) h) in
     record {
       state = well s (r1 .0);
       begun = eqb-false n 0 (n1 .0);
@@ -101,9 +101,9 @@ fine s c e =
       short = ltb-false setLimit long (l1 .0);
       shrinks = λ h. ltb-false (s .lastLength) long (and-right (hasLast last) _ (l1 .1) (was last h));
       goes = going g o long (passed 8 _ (r4 .0));
-      inter = λ h. list-read false k (c .inter) (and-right (readsInter g) _ (d1 .0) h);
-      importance = λ h. list-read true k (c .importance) (d2 h .0);
-      threshold = λ h. list-read true k (c .threshold) (d2 h .1);
+      inter = λ h. list-read k (c .inter) (and-right (readsInter g) _ (d1 .0) h);
+      importance = λ h. list-read k (c .importance) (d2 h .0);
+      threshold = λ h. list-read k (c .threshold) (d2 h .1);
     }
 
 pub accepts : (s : View) (c : Call) → Fine s c → stepFault s c ≡ 0
@@ -123,9 +123,9 @@ accepts s c f =
     let short : setTooLong long ≡ false = le-ltb setLimit long (f .short) in
     let shrinks : setGrows last (s .lastLength) long ≡ false = not-both (hasLast last) _ (λ t. le-ltb (s .lastLength) long (f .shrinks (was-no last t))) in
     let goes : stops g o long ≡ false = on g o long (f .goes) in
-    let inter : readsInter g && badList false k (c .inter) ≡ false = not-both (readsInter g) _ (λ h. list-good false k (c .inter) (f .inter h)) in
-    let rest : readsAll g && (badList true k (c .importance) || badList true k (c .threshold)) ≡ false
-    = not-both (readsAll g) _ (λ h. rw (list-good true k (c .importance) (f .importance h), list-good true k (c .threshold) (f .threshold h))) in
+    let inter : readsInter g && badList k (c .inter) ≡ false = not-both (readsInter g) _ (λ h. list-good k (c .inter) (f .inter h)) in
+    let rest : readsAll g && (badList k (c .importance) || badList k (c .threshold)) ≡ false
+    = not-both (readsAll g) _ (λ h. rw (list-good k (c .importance) (f .importance h), list-good k (c .threshold) (f .threshold h))) in
     sym (or-later 0 (stateFault s) _ (sym (passes s (f .state)))
     (or-later 0 (numberFault last n p) _ (rw (begun, small, behind, inTurn))
     (or-later 0 (lengthFault last (s .lastLength) long) _ (rw (short, shrinks))

@@ -129,16 +129,16 @@ readsAll g = not (isFast g) && readsInter g
 abbrev pub wrongLength : ℕ → List Float → Bool
 wrongLength items l = not (eqb (length l) items)
 
--- "inter cost NaN, infinite or below 0; importance or threshold infinite or below 0 (NaN allowed)"
-abbrev pub holdsForbidden : Bool → List Float → Bool
-holdsForbidden nanAllowed l = anyOf (forbidden nanAllowed) l
+-- a number that is "NaN, infinite or below 0", in whichever list: document 02, L7, "10 now covers NaN everywhere in a read list"
+abbrev pub holdsForbidden : List Float → Bool
+holdsForbidden l = anyOf forbidden l
 
-abbrev pub badList : Bool → ℕ → List Float → Bool
-badList nanAllowed items l = wrongLength items l || holdsForbidden nanAllowed l
+abbrev pub badList : ℕ → List Float → Bool
+badList items l = wrongLength items l || holdsForbidden l
 
 unfoldable pub listsFault : Settings → ℕ → List Float → List Float → List Float → ℕ
 listsFault g items ds is ts =
-    refusal 10 ((readsInter g && badList false items ds) || (readsAll g && (badList true items is || badList true items ts)))
+    refusal 10 ((readsInter g && badList items ds) || (readsAll g && (badList items is || badList items ts)))
 
 -- ---- the refusal of a call, 0 for none; "each list has L − 1 items (none if L is 0)"
 

@@ -118,11 +118,11 @@ fn stop_fault(g: Settings, o: usize, length: usize) -> u32
 }
 
 // Whether a list holds a number that 10 forbids.
-fn any_forbidden(nan_allowed: bool, list: &[f64]) -> bool
-    ensures { λ r. ⌜ r ≡ anyOf (forbidden «nan_allowed») (now (list .entry)) ⌝ }
+fn any_forbidden(list: &[f64]) -> bool
+    ensures { λ r. ⌜ r ≡ anyOf forbidden (now (list .entry)) ⌝ }
 {
     for i in 0..list.len() {
-        if decision::is_forbidden(nan_allowed, list[i]) {
+        if decision::is_forbidden(list[i]) {
             return true;
         }
     }
@@ -130,13 +130,13 @@ fn any_forbidden(nan_allowed: bool, list: &[f64]) -> bool
 }
 
 // Whether a list that is read has another length, or a forbidden number.
-fn bad_list(nan_allowed: bool, items: usize, list: &[f64]) -> bool
-    ensures { λ r. ⌜ r ≡ badList «nan_allowed» items (now (list .entry)) ⌝ }
+fn bad_list(items: usize, list: &[f64]) -> bool
+    ensures { λ r. ⌜ r ≡ badList items (now (list .entry)) ⌝ }
 {
     if list.len() != items {
         return true;
     }
-    any_forbidden(nan_allowed, list)
+    any_forbidden(list)
 }
 
 // Refusal 10 of the lists, or 0. A list that the mode does not read is not looked at.
@@ -153,14 +153,14 @@ fn lists_fault(
     if mode == Settings::NONE {
         return 0;
     }
-    if bad_list(false, items, inter) {
+    if bad_list(items, inter) {
         return 10;
     }
     if mode == Settings::FAST {
         return 0;
     }
-    let i = bad_list(true, items, importance);
-    let t = bad_list(true, items, threshold);
+    let i = bad_list(items, importance);
+    let t = bad_list(items, threshold);
     if i | t {
         return 10;
     }

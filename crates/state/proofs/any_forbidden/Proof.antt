@@ -14,10 +14,10 @@ use Rattle.state.proofs.any_forbidden.Statement.{statement}
 use Rattle.state.proofs.any_forbidden.Tie as tie
 
 abbrev Inv-loop : tie.InvT-loop
-Inv-loop nan-allowed list i₀ i-end i = (i ≤ length list) × ((i-end ≡ length list) × (anyOf (forbidden nan-allowed) list ≡ anyOf (forbidden nan-allowed) (drop i list)))
+Inv-loop list i₀ i-end i = (i ≤ length list) × ((i-end ≡ length list) × (anyOf forbidden list ≡ anyOf forbidden (drop i list)))
 
 abbrev μ-loop : tie.MeasureT-loop
-μ-loop nan-allowed list i₀ i-end i = length list - i
+μ-loop list i₀ i-end i = length list - i
 
 loop-holds : tie.Need-loop-holds Inv-loop μ-loop
 loop-holds c = (omega arith, (refl, refl))
@@ -35,8 +35,8 @@ returns : tie.Need-returns Inv-loop μ-loop
 returns c =
     let b = c .before .before .before .before in
     let a = b .before .before .args in
-    let r : forbidden (a .nan-allowed) (getD (a .list .now) (b .loop .i) nan) ≡ true = sym (c .before .is-forbidden .ensures) ∙ c .if1 .taken in
-    sym (b .loop .inv .1 .1 ∙ any-more (forbidden (a .nan-allowed)) (a .list .now) (b .loop .i) nan (omega arith) ∙ rw r)
+    let r : forbidden (getD (a .list .now) (b .loop .i) nan) ≡ true = sym (c .before .is-forbidden .ensures) ∙ c .if1 .taken in
+    sym (b .loop .inv .1 .1 ∙ any-more forbidden (a .list .now) (b .loop .i) nan (omega arith) ∙ rw r)
 
 add-i : tie.Need-add-i Inv-loop μ-loop
 add-i c = omega arith
@@ -48,13 +48,13 @@ loop-again : tie.Need-loop-again Inv-loop μ-loop
 loop-again c =
     let b = c .before .before .before .before in
     let a = b .before .before .args in
-    let r : forbidden (a .nan-allowed) (getD (a .list .now) (b .loop .i) nan) ≡ false = sym (c .before .is-forbidden .ensures) ∙ c .if1 .left in
-    (omega arith, (refl, b .loop .inv .1 .1 ∙ any-more (forbidden (a .nan-allowed)) (a .list .now) (b .loop .i) nan (omega arith) ∙ rw r))
+    let r : forbidden (getD (a .list .now) (b .loop .i) nan) ≡ false = sym (c .before .is-forbidden .ensures) ∙ c .if1 .left in
+    (omega arith, (refl, b .loop .inv .1 .1 ∙ any-more forbidden (a .list .now) (b .loop .i) nan (omega arith) ∙ rw r))
 
 returns-2 : tie.Need-returns-2 Inv-loop μ-loop
 returns-2 c =
     let a = c .before .before .before .args in
-    sym (c .before .loop .inv .1 .1 ∙ any-end (forbidden (a .nan-allowed)) (a .list .now) (c .before .loop .i) (omega arith))
+    sym (c .before .loop .inv .1 .1 ∙ any-end forbidden (a .list .now) (c .before .loop .i) (omega arith))
 
 pub any-forbidden-spec : {M : Type 1} → statement M
 any-forbidden-spec =
