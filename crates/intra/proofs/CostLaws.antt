@@ -16,13 +16,13 @@ use Rattle.answer.specs.Refusal.{refusal, _orElse_}
 use Rattle.answer.proofs.Laws.{or-given, or-later, or-none, or-group, passed, test-given, test-passed}
 use Rattle.answer.specs.declared.Whole.{Whole}
 use Rattle.answer.specs.declared.Whole.the-variants as whole
-use Rattle.plane.specs.Blocks.{blockSide, blocksAcross, blocksDown, blockCount, blockSample, blocksStart, blockRow}
+use Rattle.plane.specs.Blocks.{blockSide, blocksAcross, blocksDown, blockCount, blockFault, blocksFault, blockSample, blocksStart, blockRow}
 use Rattle.plane.specs.Needs.{blockStart}
-use Rattle.plane.specs.Planes.{Word, byte, deep, suits, maxSide, wordFault, planeFault, sizesFault, shapesFault, sampleFault, tooLarge}
+use Rattle.plane.specs.Planes.{Word, byte, deep, suits, maxSide, wordFault, planeFault, sizesFault, sampleFault, tooLarge}
 use Rattle.plane.specs.declared.Plane.{Plane}
-use Rattle.plane.proofs.BlockLaws.{block-in, block-place, count-most, row-starts}
+use Rattle.plane.proofs.BlockLaws.{block-in, block-place, count-most, row-starts, by-blocks, blocks-alone}
 use Rattle.plane.proofs.PlaneLaws.{Pair, pair, row-in}
-use Rattle.plane.proofs.SampleLaws.{suited, by-shapes, shapes-alone, bytes-pass, sample-fault-is}
+use Rattle.plane.proofs.SampleLaws.{suited, by-shapes, bytes-pass, sample-fault-is}
 use Rattle.satd.specs.Satd.{blockSize, satdOf}
 use Rattle.satd.proofs.SatdLaws.{satd-given, satd-most}
 use Rattle.sums.specs.Needs.{byteMost}
@@ -163,59 +163,69 @@ module _ (p : Plane) (n : ℕ) (w : Plane) (m room y start start2 : ℕ) where
 -- ---- the refusals in order, and what a call that is not refused keeps to
 
 module _ (word : Word) (depth : ℕ) (p : Plane) (s : List ℕ) (w : Plane) (work : List ℕ) (room : ℕ) where
-  pub planes-refused : (r : ℕ) → r ≡ shapesFault word depth p (length s) w (length work) → (r ≡ 0 → ⊥) → r ≡ intraFault word depth p s w work room
+  abbrev by-planes : ℕ
+  by-planes = blocksFault word depth p (length s) w (length work)
+
+  pub planes-refused : (r : ℕ) → r ≡ by-planes → (r ≡ 0 → ⊥) → r ≡ intraFault word depth p s w work room
   unfolding intraFault roomFault
   planes-refused r e h = or-given r _ _ (or-given r _ _ e h) h
 
-  pub no-room : 0 ≡ shapesFault word depth p (length s) w (length work) → room < blockCount p → 4 ≡ intraFault word depth p s w work room
+  pub no-room : 0 ≡ by-planes → room < blockCount p → 4 ≡ intraFault word depth p s w work room
   unfolding intraFault roomFault
   no-room e h = or-given 4 _ _ (or-later 4 _ _ e (test-given 4 _ (lt-ltb room (blockCount p) h))) (λ d. omega arith)
 
   -- with room enough the samples decide
-  pub room-enough : 0 ≡ shapesFault word depth p (length s) w (length work) → blockCount p ≤ room
-      → (r : ℕ) → r ≡ refusal 16 (tooLarge depth p s) → r ≡ intraFault word depth p s w work room
+  pub room-enough : 0 ≡ by-planes → blockCount p ≤ room → (r : ℕ) → r ≡ refusal 16 (tooLarge depth p s) → r ≡ intraFault word depth p s w work room
   unfolding intraFault roomFault
   room-enough e h r d = or-later r _ _ (or-later 0 _ _ e (test-passed 4 _ (le-ltb room (blockCount p) h))) d
 
-  pub samples-decide : 0 ≡ shapesFault word depth p (length s) w (length work) → blockCount p ≤ room
-      → (r : ℕ) → r ≡ sampleFault word depth p s → r ≡ intraFault word depth p s w work room
+  -- planes that pass have one size, and a depth that suits
+  pub planes-pass : by-planes ≡ 0 → (wordFault word depth ≡ 0) × (sizesFault p (length s) w (length work) ≡ 0)
+  planes-pass e = by-shapes word depth p (length s) w (length work) (by-blocks word depth p (length s) w (length work) e .0)
+
+  pub samples-decide : 0 ≡ by-planes → blockCount p ≤ room → (r : ℕ) → r ≡ sampleFault word depth p s → r ≡ intraFault word depth p s w work room
   unfolding sizesFault
   samples-decide e h r d =
-      let t = by-shapes word depth p (length s) w (length work) (sym e) in
-      room-enough e h r (sample-fault-is word depth p s (t .0) (or-none _ _ (t .1) .0) r d)
+      let t = planes-pass (sym e) in room-enough e h r (sample-fault-is word depth p s (t .0) (or-none _ _ (t .1) .0) r d)
+
+  -- where nothing is refused: the planes pass, and there is room
+  by-room : intraFault word depth p s w work room ≡ 0 → (by-planes ≡ 0) × (blockCount p ≤ room)
+  unfolding intraFault roomFault
+  by-room e =
+      let t = or-none (roomFault word depth p (length s) w (length work) room) (refusal 16 (tooLarge depth p s)) e in
+      let u = or-none by-planes (refusal 4 (ltb room (blockCount p))) (t .0) in
+      (u .0, ltb-false room (blockCount p) (passed 3 (ltb room (blockCount p)) (u .1)))
 
   pub fine : intraFault word depth p s w work room ≡ 0 → (sizesFault p (length s) w (length work) ≡ 0) × (blockCount p ≤ room)
-  unfolding intraFault roomFault
-  fine e =
-      let t = or-none (roomFault word depth p (length s) w (length work) room) (refusal 16 (tooLarge depth p s)) e in
-      let u = or-none (shapesFault word depth p (length s) w (length work)) (refusal 4 (ltb room (blockCount p))) (t .0) in
-      (by-shapes word depth p (length s) w (length work) (u .0) .1, ltb-false room (blockCount p) (passed 3 (ltb room (blockCount p)) (u .1)))
+  fine e = let t = by-room e in (planes-pass (t .0) .1, t .1)
 
   -- what the depth is, so that the flat sample is its own
   pub suits-word : intraFault word depth p s w work room ≡ 0 → suits word depth ≡ true
-  unfolding intraFault roomFault
-  suits-word e =
-      let t = or-none (roomFault word depth p (length s) w (length work) room) (refusal 16 (tooLarge depth p s)) e in
-      let u = or-none (shapesFault word depth p (length s) w (length work)) (refusal 4 (ltb room (blockCount p))) (t .0) in
-      suited word depth (by-shapes word depth p (length s) w (length work) (u .0) .0)
+  suits-word e = suited word depth (planes-pass (by-room e .0) .0)
 
-  -- the block count of planes that are not refused, and so the answer
-  pub count-fits : shapesFault word depth p (length s) w (length work) ≡ 0 → blockCount p ≤ maxSide * maxSide
-  count-fits e = count-most p (length s) (pair p (length s) w (length work) (by-shapes word depth p (length s) w (length work) e .1) .first)
+  -- there is a block, and their number fits: so it does in the answer
+  pub has-block : intraFault word depth p s w work room ≡ 0 → 0 < blockCount p
+  has-block e = by-blocks word depth p (length s) w (length work) (by-room e .0) .1
+
+  pub count-fits : by-planes ≡ 0 → blockCount p ≤ maxSide * maxSide
+  count-fits e = count-most p (length s) (pair p (length s) w (length work) (planes-pass e .1) .first)
 
   pub blocks-most : intraFault word depth p s w work room ≡ 0 → blockCount p ≤ maxSide * maxSide
-  blocks-most e = count-most p (length s) (pair p (length s) w (length work) (fine e .0) .first)
+  blocks-most e = count-fits (by-room e .0)
 
 -- without a work plane the refusal is that of a plane which is its own
 pub alone : (word : Word) (depth : ℕ) (p : Plane) (s : List ℕ) (room r : ℕ) → r ≡ intraFault word depth p s p s room → r ≡ costsFault word depth p s room
 unfolding costsFault intraFault roomFault
 alone word depth p s room r e =
+    let shape-fault = wordFault word depth orElse planeFault p (length s) in
+    let block-fault = blockFault (blockCount p) in
     let room-fault = refusal 4 (ltb room (blockCount p)) in
     let sample-fault = refusal 16 (tooLarge depth p s) in
     e
-    ∙ ap (λ (f : ℕ). (f orElse room-fault) orElse sample-fault) (shapes-alone word depth p (length s))
-    ∙ or-group (wordFault word depth orElse planeFault p (length s)) room-fault sample-fault
-    ∙ or-group (wordFault word depth) (planeFault p (length s)) (room-fault orElse sample-fault)
+    ∙ ap (λ (f : ℕ). (f orElse room-fault) orElse sample-fault) (blocks-alone word depth p (length s))
+    ∙ or-group (shape-fault orElse block-fault) room-fault sample-fault
+    ∙ or-group shape-fault block-fault (room-fault orElse sample-fault)
+    ∙ or-group (wordFault word depth) (planeFault p (length s)) (block-fault orElse (room-fault orElse sample-fault))
 
 -- a depth of 16 bits that is not 10 is 12
 pub twelve : (depth : ℕ) → suits deep depth ≡ true → (depth ≡ 10 → ⊥) → depth ≡ 12
@@ -223,7 +233,7 @@ twelve depth e h = eqb-true depth 12 (rw (ne-eqb depth 10 h) at e)
 
 -- no byte is looked at: with room enough nothing is refused
 pub bytes-enough : (depth : ℕ) (p : Plane) (s : List ℕ) (w : Plane) (work : List ℕ) (room : ℕ) → ((i : ℕ) → getD s i 0 ≤ byteMost)
-    → 0 ≡ shapesFault byte depth p (length s) w (length work) → blockCount p ≤ room → 0 ≡ intraFault byte depth p s w work room
+    → 0 ≡ blocksFault byte depth p (length s) w (length work) → blockCount p ≤ room → 0 ≡ intraFault byte depth p s w work room
 bytes-enough depth p s w work room l e h =
-    let depth-is = suited byte depth (by-shapes byte depth p (length s) w (length work) (sym e) .0) in
+    let depth-is = suited byte depth (planes-pass byte depth p s w work room (sym e) .0) in
     room-enough byte depth p s w work room e h 0 (test-passed 16 (tooLarge depth p s) (bytes-pass depth p s depth-is l))

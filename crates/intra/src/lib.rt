@@ -142,11 +142,12 @@ fn all_blocks(p: Plane, s: &[u8], costs: &mut [u32], flat: u8)
     }
 }
 
-// The refusal of intra costs, or 0: of the depth and the two planes, and 4 for a list with no room for the costs.
+// The refusal of intra costs, or 0: of the depth and the two planes, 19 where they have no whole block, and 4 for a list with no room for
+// the costs.
 fn intra_fault(depth: u64, p: Plane, s: &[u8], w: Plane, work: &[u8], room: usize) -> u32
     ensures { λ r. ⌜ r ≡ intraFault byte depth p (now (s .entry)) w (now (work .entry)) room ⌝ }
 {
-    let fault = plane::shapes_fault(depth, p, s.len(), w, work.len());
+    let fault = plane::blocks_fault(depth, p, s.len(), w, work.len());
     if fault != 0 {
         return fault;
     }
