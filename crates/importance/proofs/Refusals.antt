@@ -5,12 +5,12 @@ use mathlib.Core.Path.{_≡_, refl, sym}
 use Prim.Native.Nat.{ℕ, _≤_, _<_}
 use lib.ListN.{length, getD}
 use Rattle.answer.specs.Refusal.{refusal}
-use Rattle.answer.proofs.Laws.{or-given, or-later, or-none}
+use Rattle.answer.proofs.Laws.{or-given, or-later, or-none, or-both}
 use Rattle.plane.specs.Blocks.{blockCount, blocksFault}
 use Rattle.plane.specs.Planes.{Word, byte, sizesFault, shapesFault, pairFault, tooLarge}
 use Rattle.plane.specs.declared.Plane.{Plane}
 use Rattle.plane.proofs.BlockLaws.{block-passes, blocks-next, by-blocks}
-use Rattle.plane.proofs.SampleLaws.{by-shapes, suited, pair-fault-is}
+use Rattle.plane.proofs.SampleLaws.{by-shapes, suited, measured}
 use Rattle.plane.proofs.SampleLaws as samples
 use Rattle.sums.specs.Needs.{byteMost}
 use Rattle.importance.specs.Importance.{importanceFault}
@@ -25,14 +25,18 @@ module _ (word : Word) (depth : ℕ) (p : Plane) (a : List ℕ) (q : Plane) (b :
   unfolding importanceFault
   samples-decide e = or-later _ _ _ e refl
 
-  -- where nothing is refused, they are two planes of one size
-  pub one-size : importanceFault word depth p a q b ≡ 0 → sizesFault p (length a) q (length b) ≡ 0
-  unfolding importanceFault
-  one-size e =
+  -- what is taken here the difference takes too ..
+  pub as-difference : importanceFault word depth p a q b ≡ 0 → pairFault word depth p a q b ≡ 0
+  unfolding importanceFault pairFault
+  as-difference e =
       let t = or-none (blocksFault word depth p (length a) q (length b)) (refusal 16 (tooLarge depth p a || tooLarge depth q b)) e in
-      by-shapes word depth p (length a) q (length b) (by-blocks word depth p (length a) q (length b) (t .0) .0) .1
+      or-both _ _ (by-blocks word depth p (length a) q (length b) (t .0) .0) (t .1)
 
-  -- with a block, what the difference takes is taken here too
+  -- .. so they are two planes of one size
+  pub one-size : importanceFault word depth p a q b ≡ 0 → sizesFault p (length a) q (length b) ≡ 0
+  one-size e = measured word depth p a q b (as-difference e)
+
+  -- and with a block, what the difference takes is taken here
   pub with-blocks : pairFault word depth p a q b ≡ 0 → 0 < blockCount p → importanceFault word depth p a q b ≡ 0
   unfolding importanceFault pairFault
   with-blocks e h =

@@ -3,7 +3,8 @@ use mathlib.Core.Bool.{Bool, true, false, not, _||_, _&&_}
 use mathlib.Core.List.{List}
 use mathlib.Core.Path.{_≡_, refl, sym, ap}
 use Prim.Native.Nat.{ℕ, _-_, _*_, _/_, _≤_, _<_, _^_}
-use native.Mathlib.Nat.{mul-assoc, mul-le-mul}
+use native.Mathlib.Decide.{decLt}
+use native.Mathlib.Nat.{mul-assoc, mul-zero, mul-le-mul}
 use native.Mathlib.Omega.{arith}
 use borrow.Author.Tests.{eq-eqb, ne-eqb, eqb-true, ltb-false, not-false}
 use lib.Dec.{ltb, eqb}
@@ -14,7 +15,7 @@ use Rattle.plane.specs.Planes.{Word, byte, deep, suits, badSide, maxSide, depth
 use Rattle.plane.proofs.PlaneLaws.{good-side, total-fits}
 use Rattle.plane.proofs.SampleLaws.{suited}
 use Rattle.strips.specs.declared.carry.Carry.{Carry}
-use Rattle.strips.specs.Carry.{carryLong, carryOf, blocksIn, totalsMost, totalsPast, carryUnfit, isCarry, carryFault}
+use Rattle.strips.specs.Carry.{carryLong, carryOf, blocksAlong, blocksIn, totalsMost, totalsPast, carryUnfit, isCarry, carryFault}
 use Rattle.strips.specs.Needs.{Sound}
 
 -- ---- the totals
@@ -98,10 +99,10 @@ pub word-depth : (word : Word) (depth : ℕ) → wordFault word depth ≡ 0 → 
 unfolding depthFault
 word-depth word depth e = test-passed 5 _ (ap not (one-of-three word depth (suited word depth e)))
 
--- and its totals are within their limit
-pub sound : (word : Word) (c : Carry) → carryUnfit c ≡ false → wordFault word (c .depth) ≡ 0 → Sound word c
+-- and its totals are within their limit; with a whole block, there is one in each row of blocks
+pub sound : (word : Word) (c : Carry) → carryUnfit c ≡ false → wordFault word (c .depth) ≡ 0 → 0 < blocksIn c → Sound word c
 unfolding totalsPast
-sound word c e d =
+sound word c e d some =
     let f = fit c e in
     let t = or-no (ltb (totalsMost c) (c .difference)) (ltb (totalsMost c) (c .importance))
     (limited (eqb (depthFault (c .depth)) 0) (above c (totalsMost c)) (eq-eqb (depthFault (c .depth)) 0 (sym (word-depth word (c .depth) d))) (f .totals)) in
@@ -114,10 +115,17 @@ sound word c e d =
       come = f .come;
       difference = ltb-false (totalsMost c) (c .difference) (t .0);
       importance = ltb-false (totalsMost c) (c .importance) (t .1);
+      blocks-some = go (decLt 0 (blocksAlong c));
     }
   where
     limited : (a t : Bool) → a ≡ true → a && t ≡ false → t ≡ false
     limited a t h e = rw h at e
+
+    go : Dec (0 < blocksAlong c) → 0 < blocksAlong c
+    go (yes h) = h
+    go (no h) =
+        let none : blocksAlong c ≡ 0 = omega arith in
+        absurd (omega (arith, ap (λ (n : ℕ). c .height / blockSide * n) none, mul-zero (c .height / blockSide)))
 
 -- ---- 11 over lent places
 

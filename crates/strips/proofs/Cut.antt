@@ -12,10 +12,12 @@ use Rattle.answer.proofs.Laws.{or-both, or-none, test-passed, answer-given, len
 use Rattle.importance.specs.Importance.{blocksDifference, importanceTotal}
 use Rattle.intra.specs.Costs.{intraFault, costAt}
 use Rattle.intra.specs.Fill.{flatSample}
-use Rattle.intra.proofs.CostLaws.{fine}
+use Rattle.importance.proofs.Refusals.{with-blocks}
+use Rattle.intra.proofs.CostLaws.{fine, has-block}
 use Rattle.plane.specs.Blocks.{blockSide, blocksAcross, blockCount}
 use Rattle.plane.specs.Planes.{Word, suits, badSide, sampleAt, sizesDiffer, wordFault, tooLarge, shapesFault, pairFault}
 use Rattle.plane.specs.declared.Plane.{Plane}
+use Rattle.plane.proofs.BlockLaws.{block-passes}
 use Rattle.plane.proofs.PlaneLaws.{side-passes}
 use Rattle.sad.specs.Difference.{rowSad, planeSad}
 use Rattle.sums.specs.Sums.{sumBelow, apart}
@@ -36,7 +38,7 @@ use Rattle.strips.proofs.ShapeLaws.{started, ended}
 
 module _ (word : Word) (depth : ℕ) (frames : Strip) (before : List ℕ)
     (good : pairFault word depth (frames .first) (frames .a) (frames .second) (frames .b) ≡ 0)
-    (suit : wordFault word depth ≡ 0) where
+    (suit : wordFault word depth ≡ 0) (some : 0 < blockCount (frames .first)) where
   abbrev p : Plane
   p = frames .first
 
@@ -55,7 +57,7 @@ module _ (word : Word) (depth : ℕ) (frames : Strip) (before : List ℕ)
 
   suits-at : (r : ℕ) → r ≤ p .height → Suits word depth frames before (at r)
   suits-at r h = record {
-    sound = sound word (at r) (carry-fits word depth frames good r h) suit;
+    sound = sound word (at r) (carry-fits word depth frames good r h) suit some;
     width = refl;
     depth-is = refl;
     widths = sym (planes word depth frames good .widths);
@@ -81,7 +83,7 @@ module _ (word : Word) (depth : ℕ) (frames : Strip) (before : List ℕ)
         rw (le-ltb (length costs) (blocksIn (at r)) list, le-ltb (length room) (roomLong (at r)) (here .enough)) refl in
         let both : tooManyRows (at r) (s .first) || tooManyRows (at r) (s .second) ≡ false = rw (few, few2) refl in
         or-both _ _ (sym (test-passed 17 _ both))
-        (or-both _ _ suit (or-both _ _ (shows .lies .0) (or-both _ _ (shows .lies .1) (or-both _ _ (sym (test-passed 3 _ match)) (sym (test-passed 4 _ enough))))))
+        (or-both _ _ suit (or-both _ _ (shows .lies .0) (or-both _ _ (shows .lies .1) (or-both _ _ (sym (test-passed 3 _ match)) (or-both _ _ (sym (block-passes (blocksIn (at r)) some)) (sym (test-passed 4 _ enough)))))))
 
     samples-pass : tooLarge depth (s .first) (s .a) || tooLarge depth (s .second) (s .b) ≡ false
     samples-pass =
@@ -191,6 +193,15 @@ module _ (word : Word) (depth : ℕ) (frames : Strip) (w : Plane) (work ns room 
   abbrev carryOf : ℕ → Carry
   carryOf = carryAt word depth frames good
 
+  -- the blocks of either plane are as many, and there is one
+  blocks-same : blockCount second ≡ blocksIn (carryOf 0)
+  blocks-same =
+      let l = planes word depth frames good in
+      ap (λ (n : ℕ). n / blockSide * (second .width / blockSide)) (sym (l .heights)) ∙ ap (λ (n : ℕ). first .height / blockSide * (n / blockSide)) (sym (l .widths))
+
+  some : 0 < blockCount first
+  some = omega (arith, has-block word depth second (frames .b) w work (length costs) intra, blocks-same)
+
   -- the start
   start-passes : isCarry ns ≡ true → 0 ≡ startFault depth (first .width) (first .height) ns
   start-passes e =
@@ -218,12 +229,7 @@ module _ (word : Word) (depth : ℕ) (frames : Strip) (w : Plane) (work ns room 
   end-passes : 0 ≡ endFault (carryNumbers (carryOf (first .height)))
   end-passes =
       let fits = carry-fits word depth frames good (first .height) (omega arith) in
-      ended (carryNumbers (carryOf (first .height))) (fit-passed (carryNumbers (carryOf (first .height))) refl fits) (word-depth word depth suit) (omega arith)
-
-  blocks-same : blockCount second ≡ blocksIn (carryOf 0)
-  blocks-same =
-      let l = planes word depth frames good in
-      ap (λ (n : ℕ). n / blockSide * (second .width / blockSide)) (sym (l .heights)) ∙ ap (λ (n : ℕ). first .height / blockSide * (n / blockSide)) (sym (l .widths))
+      ended (carryNumbers (carryOf (first .height))) (fit-passed (carryNumbers (carryOf (first .height))) refl fits) (word-depth word depth suit) (block-passes (blockCount first) some) (omega arith)
 
   as-whole : (last : Kept) (room′ costs′ : List ℕ) → last ≡ kept (carryNumbers (carryOf (first .height))) room′ costs′
       → Level word depth frames costs (first .height) (carryOf (first .height) .importance) room′ costs′
@@ -232,7 +238,7 @@ module _ (word : Word) (depth : ℕ) (frames : Strip) (w : Plane) (work ns room 
   as-whole last room′ costs′ e l = record {
     given = ap (λ (k : Kept). endOf (k .carry)) e ∙ sym (answer-given _ _ _ end-passes refl);
     difference = sym (answer-given _ _ _ (sym good) refl);
-    importance = sym (answer-given _ _ _ (sym good) refl);
+    importance = sym (answer-given _ _ _ (sym (with-blocks word depth first (frames .a) second (frames .b) good some)) refl);
     blocks = sym (answer-given _ _ _ (sym intra) (sym blocks-same));
     costs-are = ap (λ (k : Kept). k .costs) e ∙ l .costs-are
         ∙ ap (λ (n : ℕ). written (λ (k : ℕ). ltb k n) (costAt (flatSample depth) second (frames .b)) costs) (sym blocks-same)
@@ -243,9 +249,10 @@ pub strips-as-whole : StripsAsWhole
 strips-as-whole word depth frames w work strips ns room costs good intra carry enough cut =
     let first = frames .first in
     let suits = suit word depth frames w work ns room costs good intra in
+    let blocks = some word depth frames w work ns room costs good intra in
     let list : blocksIn (carryAt word depth frames good 0) ≤ length costs =
     omega (arith, blocks-same word depth frames w work ns room costs good intra, fine word depth (frames .second) (frames .b) w work (length costs) intra .1) in
-    let all = all-strips word depth frames costs good suits 0 room costs (level-none word depth frames w work ns room costs good intra enough) list strips cut in
+    let all = all-strips word depth frames costs good suits blocks 0 room costs (level-none word depth frames w work ns room costs good intra enough) list strips cut in
     let begun = begins word depth frames w work ns room costs good intra carry in (
       sym (answer-given _ _ _ (start-passes word depth frames w work ns room costs good intra carry) refl),
       rw begun (all .0),

@@ -12,14 +12,15 @@ use Rattle.answer.specs.Refusal.{refusal}
 use Rattle.answer.specs.declared.Whole.{Whole}
 use Rattle.answer.specs.declared.Whole.the-variants as whole
 use Rattle.answer.proofs.Laws.{or-later, or-both, test-given, test-passed, answer-cases, lent-written, lent-kept}
-use Rattle.importance.specs.Importance.{totalOf}
+use Rattle.importance.specs.Importance.{importanceFault, totalOf}
 use Rattle.importance.proofs.BlockSums.{total-most}
+use Rattle.importance.proofs.Refusals.{samples-decide}
 use Rattle.intra.specs.Costs.{costAt, costsAfter, costsFault, planeCostsOf}
 use Rattle.intra.specs.Fill.{flatSample}
-use Rattle.plane.specs.Blocks.{blockCount}
-use Rattle.plane.specs.Planes.{Word, sizesDiffer, sizesFault, shapesFault, pairFault, sampleFault, tooLarge}
+use Rattle.plane.specs.Blocks.{blockSide, blockCount, blockFault}
+use Rattle.plane.specs.Planes.{Word, sizesDiffer, sizesFault, shapesFault, sampleFault, tooLarge}
+use Rattle.plane.proofs.BlockLaws.{block-passes, blocks-next}
 use Rattle.plane.proofs.PlaneLaws.{Lies, not-refused}
-use Rattle.plane.proofs.SampleLaws.{pair-fault-is}
 use Rattle.sums.specs.Places.{inRun}
 use Rattle.sums.proofs.PlaceLaws.{run-none}
 use Rattle.sums.proofs.WrittenLaws.{written-none, prefix-none}
@@ -56,9 +57,15 @@ module _ (word : Word) (c : Carry) (s : Sound word c) (room : List ℕ) (enough 
       (or-both _ _ (not-refused (heldFirst c) (length room) first-lies)
       (or-both _ _ (not-refused (heldSecond c) (length room) second-lies) (sym (test-passed 3 _ same)))))
 
+  -- and have a block
+  some : (at : ℕ) → 0 ≡ blockFault (blockCount (heldPlane c at))
+  some at = block-passes (blockCount (heldPlane c at)) (omega (arith, s .blocks-some))
+
   -- so only their samples can be refused
-  pub held-pair : refusal 16 (tooLarge (c .depth) (heldFirst c) room || tooLarge (c .depth) (heldSecond c) room) ≡ pairFault word (c .depth) (heldFirst c) room (heldSecond c) room
-  held-pair = pair-fault-is word (c .depth) (heldFirst c) room (heldSecond c) room shapes
+  pub held-pair : refusal 16 (tooLarge (c .depth) (heldFirst c) room || tooLarge (c .depth) (heldSecond c) room) ≡ importanceFault word (c .depth) (heldFirst c) room (heldSecond c) room
+  held-pair =
+      samples-decide word (c .depth) (heldFirst c) room (heldSecond c) room
+      (blocks-next word (c .depth) (heldFirst c) (length room) (heldSecond c) (length room) 0 shapes (some 0))
 
   pub held-sample : refusal 16 (tooLarge (c .depth) (heldSecond c) room) ≡ sampleFault word (c .depth) (heldSecond c) room
   unfolding sampleFault
@@ -68,7 +75,8 @@ module _ (word : Word) (c : Carry) (s : Sound word c) (room : List ℕ) (enough 
   unfolding costsFault
   held-costs n h =
       or-later _ _ _ (sym (s .depth-fits))
-      (or-later _ _ _ (sym (not-refused (heldSecond c) (length room) second-lies)) (or-later _ _ _ (test-passed 4 _ (le-ltb n (blockCount (heldSecond c)) h)) refl))
+      (or-later _ _ _ (sym (not-refused (heldSecond c) (length room) second-lies))
+      (or-later _ _ _ (some (blockSide * c .width)) (or-later _ _ _ (test-passed 4 _ (le-ltb n (blockCount (heldSecond c)) h)) refl)))
 
   -- ---- a finished row of blocks
 

@@ -12,6 +12,7 @@ use lib.ListN.{length, getD}
 use Rattle.answer.specs.Answer.{Answer, lentAfter}
 use Rattle.answer.proofs.Laws.{answer-cases, lent-written, test-passed}
 use Rattle.importance.specs.Importance.{importanceTotal}
+use Rattle.importance.proofs.Refusals.{as-difference}
 use Rattle.intra.specs.Costs.{costAt}
 use Rattle.intra.specs.Fill.{flatSample}
 use Rattle.plane.specs.Blocks.{blockSide}
@@ -44,7 +45,7 @@ rise-within word c room =
     answer-cases (λ (a : Answer ℕ). orNothing a ≤ c .width * mostOf c) _ _
     (λ e.
     let along : blocksAlong c ≤ c .width = omega arith in
-    omega (arith, blocks-most word (c .depth) (strip (heldFirst c) room (heldSecond c) room) e 1 (omega arith), mul-le-mul-right (mostOf c) along))
+    omega (arith, blocks-most word (c .depth) (strip (heldFirst c) room (heldSecond c) room) (as-difference word (c .depth) (heldFirst c) room (heldSecond c) room e) 1 (omega arith), mul-le-mul-right (mostOf c) along))
     (λ h. omega arith)
 
 row-total : (word : Word) (c : Carry) (s : Strip) (j : ℕ) (h : Held) → heldRow word c s j h .total ≤ h .total + c .width * mostOf c

@@ -10,8 +10,10 @@ use lib.Dec.{ltb, eqb}
 use lib.ListN.{length}
 use Rattle.answer.specs.Refusal.{refusal}
 use Rattle.answer.proofs.Laws.{or-no, or-none, or-both, or-given, or-later, passed, test-first, test-later, test-given, test-passed}
+use Rattle.plane.specs.Blocks.{blockFault}
 use Rattle.plane.specs.Planes.{Word, badSide, depthFault, planeFault, sizesDiffer, sizesFault, shapesFault, wordFault}
 use Rattle.plane.specs.declared.Plane.{Plane}
+use Rattle.plane.proofs.BlockLaws.{some-block}
 use Rattle.strips.specs.declared.carry.Carry.{Carry}
 use Rattle.strips.specs.Carry.{carryLong, carryOf, blocksIn, carryUnfit, carryFault}
 use Rattle.strips.specs.Needs.{Taken}
@@ -53,7 +55,7 @@ module _ (p : Plane) (n : ℕ) where
   pub no-rows-good : p .height ≡ 0 → badSide (p .width) || ltb (p .stride) (p .width) ≡ false → 0 ≡ stripFault p n
   no-rows-good e d = test-passed 1 _ d ∙ no-rows e
 
--- ---- 3 and 4
+-- ---- 3, 19 and 4
 
 -- as the code asks for it
 pub sizes-are : (p q : Plane) (also : Bool) → sizesDiffer p q || also ≡ (not (eqb (p .width) (q .width)) || not (eqb (p .height) (q .height))) || also
@@ -65,22 +67,30 @@ module _ (c : Carry) (p q : Plane) (room costs : ℕ) where
   unfolding matchFault stripsDiffer
   sizes-refused e = test-first 2 _ _ e
 
-  pub room-refused : sizesDiffer p q || not (eqb (p .width) (c .width)) ≡ false → ltb costs (blocksIn c) || ltb room (roomLong c) ≡ true → 4 ≡ matchFault c p q room costs
-  unfolding matchFault stripsDiffer tooLittle
-  room-refused e d = test-later 3 4 _ _ e (test-given 4 _ d)
+  module _ (same : sizesDiffer p q || not (eqb (p .width) (c .width)) ≡ false) where
+    pub blocks-refused : (r : ℕ) → r ≡ blockFault (blocksIn c) → (r ≡ 0 → ⊥) → r ≡ matchFault c p q room costs
+    unfolding matchFault stripsDiffer
+    blocks-refused r e h = test-later 3 r _ _ same (or-given r _ _ e h)
 
-  pub matched : sizesDiffer p q || not (eqb (p .width) (c .width)) ≡ false → ltb costs (blocksIn c) || ltb room (roomLong c) ≡ false → 0 ≡ matchFault c p q room costs
-  unfolding matchFault stripsDiffer tooLittle
-  matched e d = test-later 3 0 _ _ e (test-passed 4 _ d)
+    module _ (some : 0 ≡ blockFault (blocksIn c)) where
+      pub room-refused : ltb costs (blocksIn c) || ltb room (roomLong c) ≡ true → 4 ≡ matchFault c p q room costs
+      unfolding matchFault stripsDiffer tooLittle
+      room-refused d = test-later 3 4 _ _ same (or-later 4 _ _ some (test-given 4 _ d))
 
-  -- and what follows where neither is given
-  pub match-known : matchFault c p q room costs ≡ 0 → (sizesDiffer p q ≡ false) × (p .width ≡ c .width) × (blocksIn c ≤ costs) × (roomLong c ≤ room)
+      pub matched : ltb costs (blocksIn c) || ltb room (roomLong c) ≡ false → 0 ≡ matchFault c p q room costs
+      unfolding matchFault stripsDiffer tooLittle
+      matched d = test-later 3 0 _ _ same (or-later 0 _ _ some (test-passed 4 _ d))
+
+  -- and what follows where none is given
+  pub match-known : matchFault c p q room costs ≡ 0 → (sizesDiffer p q ≡ false) × (p .width ≡ c .width) × (0 < blocksIn c) × (blocksIn c ≤ costs) × (roomLong c ≤ room)
   unfolding matchFault stripsDiffer tooLittle
   match-known e =
-      let t = or-none (refusal 3 (sizesDiffer p q || not (eqb (p .width) (c .width)))) (refusal 4 (ltb costs (blocksIn c) || ltb room (roomLong c))) e in
+      let little = ltb costs (blocksIn c) || ltb room (roomLong c) in
+      let t = or-none (refusal 3 (sizesDiffer p q || not (eqb (p .width) (c .width)))) _ e in
+      let u = or-none (blockFault (blocksIn c)) (refusal 4 little) (t .1) in
       let s = or-no (sizesDiffer p q) (not (eqb (p .width) (c .width))) (passed 2 _ (t .0)) in
-      let r = or-no (ltb costs (blocksIn c)) (ltb room (roomLong c)) (passed 3 _ (t .1)) in
-      (s .0, eqb-true (p .width) (c .width) (not-false _ (s .1)), ltb-false costs (blocksIn c) (r .0), ltb-false room (roomLong c) (r .1))
+      let r = or-no (ltb costs (blocksIn c)) (ltb room (roomLong c)) (passed 3 little (u .1)) in
+      (s .0, eqb-true (p .width) (c .width) (not-false _ (s .1)), some-block (blocksIn c) (u .0), ltb-false costs (blocksIn c) (r .0), ltb-false room (roomLong c) (r .1))
 
 -- ---- all of them, in order
 
@@ -122,15 +132,15 @@ taken-known word c p n q m room costs f e =
     let heights : p .height ≡ q .height = eqb-true (p .height) (q .height) (not-false _ (d .1)) in
     let rows = or-no (tooManyRows c p) (tooManyRows c q) (passed 16 _ (t .0)) in
     record {
-      carry = sound word c f (u .0);
+      carry = sound word c f (u .0) (k .2);
       rows = rows-fit c p (rows .0) .1;
       heights = heights;
       width = k .1;
       sizes = λ some.
           or-both (planeFault p n) _ (some-rows p n (λ z. omega arith) ∙ v .0)
           (or-both (planeFault q m) _ (some-rows q m (λ z. omega arith) ∙ w .0) (sym (test-passed 3 _ (k .0))));
-      list = k .2;
-      enough = k .3;
+      list = k .3;
+      enough = k .4;
     }
 
 -- strips that have a row are planes that no measure refuses by its shape
@@ -176,10 +186,16 @@ module _ (ns : List ℕ) where
     unfolding endFault
     end-depth r d h = or-later r _ _ e (or-given r _ _ d h)
 
-    pub end-early : 0 ≡ depthFault (carryOf ns .depth) → carryOf ns .rows < carryOf ns .height → 18 ≡ endFault ns
-    unfolding endFault
-    end-early d h = or-later 18 _ _ e (or-later 18 _ _ d (test-given 18 _ (lt-ltb _ _ h)))
+    module _ (d : 0 ≡ depthFault (carryOf ns .depth)) where
+      pub end-blocks : (r : ℕ) → r ≡ blockFault (blocksIn (carryOf ns)) → (r ≡ 0 → ⊥) → r ≡ endFault ns
+      unfolding endFault
+      end-blocks r f h = or-later r _ _ e (or-later r _ _ d (or-given r _ _ f h))
 
-    pub ended : 0 ≡ depthFault (carryOf ns .depth) → carryOf ns .height ≤ carryOf ns .rows → 0 ≡ endFault ns
-    unfolding endFault
-    ended d h = or-later 0 _ _ e (or-later 0 _ _ d (test-passed 18 _ (le-ltb _ _ h)))
+      module _ (some : 0 ≡ blockFault (blocksIn (carryOf ns))) where
+        pub end-early : carryOf ns .rows < carryOf ns .height → 18 ≡ endFault ns
+        unfolding endFault
+        end-early h = or-later 18 _ _ e (or-later 18 _ _ d (or-later 18 _ _ some (test-given 18 _ (lt-ltb _ _ h))))
+
+        pub ended : carryOf ns .height ≤ carryOf ns .rows → 0 ≡ endFault ns
+        unfolding endFault
+        ended h = or-later 0 _ _ e (or-later 0 _ _ d (or-later 0 _ _ some (test-passed 18 _ (le-ltb _ _ h))))

@@ -5,10 +5,10 @@ use Prim.Native.Nat.{ℕ, _+_, _≤_, _<_}
 use Rattle.plane.specs.Planes.{Word, wordFault, sizesFault, maxSide}
 use Rattle.plane.specs.declared.Plane.{Plane}
 use Rattle.strips.specs.declared.carry.Carry.{Carry}
-use Rattle.strips.specs.Carry.{totalsMost, blocksIn}
+use Rattle.strips.specs.Carry.{totalsMost, blocksAlong, blocksIn}
 use Rattle.strips.specs.Rows.{Held, roomLong}
 
--- a carry that is not unfit, at a depth that suits the word
+-- a carry that is not unfit, at a depth that suits the word, of planes with a whole block
 pub record Sound (word : Word) (c : Carry) : Type 0 where
   pub depth-fits : wordFault word (c .depth) ≡ 0
   pub width-some : 0 < c .width
@@ -18,6 +18,7 @@ pub record Sound (word : Word) (c : Carry) : Type 0 where
   pub come : c .rows ≤ c .height
   pub difference : c .difference ≤ totalsMost c
   pub importance : c .importance ≤ totalsMost c
+  pub blocks-some : 0 < blocksAlong c
 
 -- strips over n and m samples, with so many places of room and of costs
 pub record Taken (word : Word) (c : Carry) (p : Plane) (n : ℕ) (q : Plane) (m room costs : ℕ) : Type 0 where

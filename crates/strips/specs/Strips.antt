@@ -6,6 +6,7 @@ use lib.Dec.{ltb, eqb}
 use lib.ListN.{length}
 use Rattle.answer.specs.Answer.{Answer, gives, refused, answered, lentAfter}
 use Rattle.answer.specs.Refusal.{refusal, _orElse_}
+use Rattle.plane.specs.Blocks.{blockFault}
 use Rattle.plane.specs.Planes.{Word, badSide, planeFault, sizesDiffer, depthFault, wordFault, tooLarge}
 use Rattle.plane.specs.declared.Plane.{Plane}
 use Rattle.sad.specs.Difference.{planeSad}
@@ -61,10 +62,11 @@ stripsDiffer c p q = sizesDiffer p q || not (eqb (p .width) (c .width))
 unfoldable pub tooLittle : Carry → ℕ → ℕ → Bool
 tooLittle c room costs = ltb costs (blocksIn c) || ltb room (roomLong c)
 
+-- 3, then 19 by the whole size: "strips included, at any strip or end"; then 4
 unfoldable pub matchFault : Carry → Plane → Plane → ℕ → ℕ → ℕ
-matchFault c p q room costs = refusal 3 (stripsDiffer c p q) orElse refusal 4 (tooLittle c room costs)
+matchFault c p q room costs = refusal 3 (stripsDiffer c p q) orElse blockFault (blocksIn c) orElse refusal 4 (tooLittle c room costs)
 
--- by the shapes: 17, 5, 1 and 2 of the first, 1 and 2 of the second, 3, 4. `unsuited` is 5 where the carry's depth does not suit the samples'
+-- by the shapes: 17, 5, 1 and 2 of the first, 1 and 2 of the second, 3, 19, 4. `unsuited` is 5 where the carry's depth does not suit the samples'
 -- word, else 0.
 unfoldable pub shapeFault : ℕ → Carry → Plane → ℕ → Plane → ℕ → ℕ → ℕ → ℕ
 shapeFault unsuited c p n q m room costs =
@@ -101,9 +103,11 @@ addAfter word k s = lentAfter (addFault word k s) (taken word k s) k
 
 -- ---- the end
 
--- 11, 5, and 18: "before all rows have come"
+-- 11, 5, 19, and 18: "before all rows have come"
 unfoldable pub endFault : List ℕ → ℕ
-endFault ns = carryFault ns orElse depthFault (carryOf ns .depth) orElse refusal 18 (ltb (carryOf ns .rows) (carryOf ns .height))
+endFault ns =
+    carryFault ns orElse depthFault (carryOf ns .depth) orElse blockFault (blocksIn (carryOf ns))
+    orElse refusal 18 (ltb (carryOf ns .rows) (carryOf ns .height))
 
 abbrev pub totalsOf : Carry → Totals
 totalsOf c = record { blocks = blocksIn c; difference = c .difference; importance = c .importance }

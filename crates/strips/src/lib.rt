@@ -199,7 +199,7 @@ pub fn add(
 
 // ---- the end
 
-// The number of blocks, the difference and the importance total, once all rows have come.
+// The number of blocks, the difference and the importance total, once all rows have come. Without a block it is refused from the first row on.
 pub fn end(carry: &[u64]) -> Ended
     ensures { λ r. ⌜ endAnswer r ≡ endOf (now (carry .entry)) ⌝ }
 {
@@ -212,11 +212,16 @@ pub fn end(carry: &[u64]) -> Ended
     if fault != 0 {
         return Ended::Refused(fault);
     }
+    let blocks = carry::blocks(c);
+    let none = plane::block_fault(blocks);
+    if none != 0 {
+        return Ended::Refused(none);
+    }
     if c.rows < c.height {
         return Ended::Refused(18);
     }
     Ended::Measured(Totals {
-        blocks: carry::blocks(c) as u64,
+        blocks: blocks as u64,
         difference: c.difference,
         importance: c.importance,
     })

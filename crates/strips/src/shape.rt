@@ -38,7 +38,7 @@ fn strip_fault(p: Plane, n: usize) -> u32
     }
 }
 
-// Refusal 3 or 4, or 0.
+// Refusal 3, 19 or 4, or 0. 19 is by the whole size, so a strip without a row gets it too.
 fn match_fault(c: Carry, p: Plane, q: Plane, room: usize, costs: usize) -> u32
     requires { ⌜ (c .width ≤ maxSide) × (c .height ≤ maxSide) ⌝ }
     ensures { λ r. ⌜ r ≡ matchFault c p q room costs ⌝ }
@@ -48,7 +48,12 @@ fn match_fault(c: Carry, p: Plane, q: Plane, room: usize, costs: usize) -> u32
     if (width != q.width) | (p.height != q.height) | (width != own) {
         return 3;
     }
-    if (costs < crate::carry::blocks(c)) | (room < 2 * BLOCK_SIDE * own) {
+    let blocks = crate::carry::blocks(c);
+    let none = plane::block_fault(blocks);
+    if none != 0 {
+        return none;
+    }
+    if (costs < blocks) | (room < 2 * BLOCK_SIDE * own) {
         return 4;
     }
     0
