@@ -145,7 +145,7 @@ pub extern "C" fn brine_delta16(
     )
 }
 
-// The importance of two planes: 0, and the quotient in `importance`, a NaN where no block is whole.
+// The importance of two planes: 0, and the quotient in `importance`.
 #[no_mangle]
 pub extern "C" fn brine_importance16(
     depth: u32,

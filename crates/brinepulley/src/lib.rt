@@ -131,7 +131,7 @@ pub extern "C" fn brine_delta(
     )
 }
 
-// The importance of two planes: 0, and the quotient in `importance`, a NaN where no block is whole.
+// The importance of two planes: 0, and the quotient in `importance`.
 #[no_mangle]
 pub extern "C" fn brine_importance(
     depth: u32,

@@ -16,11 +16,12 @@ use Rattle.answer.specs.Answer.{answered}
 use Rattle.sums.specs.Any.{anyBelow}
 use Rattle.sums.specs.Sums.{sumBelow}
 use Rattle.sums.specs.Table.{table}
-use Rattle.plane.specs.Planes.{badSide, badPlane, pastSamples, sizesDiffer, planeFault, sizesFault, depthFault, wordFault, tooLarge, sampleFault, shapesFault, pairFault}
+use Rattle.plane.specs.Blocks.{blockFault, blocksFault}
+use Rattle.plane.specs.Planes.{badSide, badPlane, pastSamples, sizesDiffer, planeFault, sizesFault, depthFault, wordFault, tooLarge, sampleFault, shapesFault}
 use Rattle.scale.specs.Scale.{sizeFault, factorBy, scaleOf}
 use Rattle.hadamard.specs.Transform.{sumZ, sign, output, transformed}
 use Rattle.satd.specs.Satd.{satdValue}
-use Rattle.importance.specs.Importance.{importanceTotal}
+use Rattle.importance.specs.Importance.{importanceTotal, importanceFault}
 use Rattle.settings.specs.Settings.{isScaled, fastThreshold, importanceThreshold, settingsFault}
 use Rattle.score.specs.Search.{anyOf, countOf}
 use Rattle.score.specs.Scores.{walkBack, backwardOf}
@@ -49,8 +50,8 @@ by-test (r ∷ rows) t (suc k) h = by-test rows (and-both (same (r .given) (r .s
 
 tested : allSame starred ≡ true
 unfolding
-    starred allSame answered _orElse_ sumBelow anyBelow table badSide badPlane pastSamples sizesDiffer planeFault sizesFault depthFault wordFault tooLarge shapesFault pairFault sizeFault
-    factorBy scaleOf sumZ sign output transformed pow one ones satdValue importanceTotal isScaled fastThreshold importanceThreshold settingsFault anyOf
+    starred allSame answered _orElse_ sumBelow anyBelow table badSide badPlane pastSamples sizesDiffer planeFault sizesFault depthFault wordFault tooLarge shapesFault blockFault blocksFault
+    importanceFault sizeFault factorBy scaleOf sumZ sign output transformed pow one ones satdValue importanceTotal isScaled fastThreshold importanceThreshold settingsFault anyOf
     countOf walkBack backwardOf cutOf stateFault numberFault lengthFault stopFault listsFault stepFault acceptedOf stepOf ofBits toBits ofInt sub
     mul div lt le eq
 tested = refl
@@ -63,7 +64,7 @@ starred-hold = by-test starred tested
 tested-depths : allSame depths ≡ true
 unfolding
     depths allSame answered _orElse_ sumBelow anyBelow table badSide badPlane pastSamples sizesDiffer planeFault sizesFault depthFault wordFault tooLarge
-    sampleFault shapesFault pairFault sumZ sign output transformed pow one ones satdValue importanceTotal fastThreshold importanceThreshold ofBits
+    sampleFault shapesFault blockFault blocksFault importanceFault sumZ sign output transformed pow one ones satdValue importanceTotal fastThreshold importanceThreshold ofBits
     toBits ofInt sub mul div lt le eq
 tested-depths = refl
 

@@ -82,7 +82,7 @@ fn put_edges() {
     put_whole(scale::detect_scale_factor(4000, 241, MODE_FAST));
 }
 
-// "A 15x8 plane has one block; 7x8 gives NaN." The planes hold 0 and 9.
+// "A 15x8 plane has one block", and document 02 of 7x8: "new 19, no block". The planes hold 0 and 9.
 fn put_blocks() {
     let dark = [0u8; 120];
     let light = [9u8; 120];
@@ -172,6 +172,15 @@ fn put_planes() {
     let none = whole_plane(0, 8);
     put(b"2 of the first plane, 1 of the second: ");
     put_whole(importance::importance_total(DEPTH, long, &samples, none, &samples));
+}
+
+// 3 before 19: planes of another height, neither with a block
+fn put_no_block() {
+    let samples = [0u8; 128];
+    let short = whole_plane(7, 8);
+    let long = whole_plane(7, 9);
+    put(b"3 of two planes, 19 of both: ");
+    put_whole(importance::importance_total(DEPTH, short, &samples, long, &samples));
 }
 
 // 3 before 4
@@ -278,6 +287,7 @@ fn main() {
     put_sides();
     put_blocks();
     put_planes();
+    put_no_block();
     put_costs();
     put_steps();
     put_orders();
