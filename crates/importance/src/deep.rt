@@ -104,13 +104,18 @@ fn all_differences(depth: u64, p: Plane, a: &[u16], q: Plane, b: &[u16]) -> Whol
     Whole::Number(total)
 }
 
-// The importance total of two planes, before the division.
+// The importance total of two planes, before the division. Shapes and blocks are asked for one after the other: `blocks_fault`, which does
+// both, the compiler keeps apart, and to hand it two planes takes 112 bytes of stack.
 pub fn importance_total(depth: u64, p: Plane, a: &[u16], q: Plane, b: &[u16]) -> Whole
     ensures { λ r. ⌜ wholeAnswer r ≡ totalOf deep depth p (now (a .entry)) q (now (b .entry)) ⌝ }
 {
-    let fault = plane::deep::blocks_fault(depth, p, a.len(), q, b.len());
+    let fault = plane::deep::shapes_fault(depth, p, a.len(), q, b.len());
     if fault != 0 {
         return Whole::Refused(fault);
+    }
+    let none = plane::block_fault((p.height / BLOCK_SIDE) * (p.width / BLOCK_SIDE));
+    if none != 0 {
+        return Whole::Refused(none);
     }
     all_differences(depth, p, a, q, b)
 }
