@@ -28,6 +28,7 @@
  *   16  a visible sample is at or above 2 to the depth, which a sample of uint16_t can be
  *   17  a strip has more than 64 rows, or more than are left of the frame
  *   18  strips were ended before all rows had come
+ *   19  what is measured by blocks has no whole block of 8 x 8 samples
  *
  * What is lent. A pointer is followed by its length, counted in elements. The pointer is aligned for its type. A list of
  * length 0 may be NULL. The places of single results, the `double *` ones, `torn` and the two of brine_strips_end, are never
@@ -82,9 +83,8 @@ int64_t brine_plane_difference(uint32_t depth,
     const uint8_t *first, size_t first_len, size_t width, size_t height, size_t stride, size_t origin,
     const uint8_t *second, size_t second_len, size_t width2, size_t height2, size_t stride2, size_t origin2);
 
-/* The importance total: for each whole block of 8 x 8 samples the distance of the two planes' rounded means, added up. It
- * is 0 where no block is whole.
- * Refusals: 5; 1 and 2 of the first plane; 1 and 2 of the second; 3. */
+/* The importance total: for each whole block of 8 x 8 samples the distance of the two planes' rounded means, added up.
+ * Refusals: 5; 1 and 2 of the first plane; 1 and 2 of the second; 3; 19. */
 int64_t brine_importance_total(uint32_t depth,
     const uint8_t *first, size_t first_len, size_t width, size_t height, size_t stride, size_t origin,
     const uint8_t *second, size_t second_len, size_t width2, size_t height2, size_t stride2, size_t origin2);
@@ -96,9 +96,8 @@ int64_t brine_delta(uint32_t depth,
     const uint8_t *second, size_t second_len, size_t width2, size_t height2, size_t stride2, size_t origin2,
     double *delta);
 
-/* The importance: the importance total over the number of whole blocks. Returns 0, and the quotient is in *importance. With
- * no whole block it is a NaN.
- * Refusals: 5; 1 and 2 of the first plane; 1 and 2 of the second; 3. Then *importance is as it was. */
+/* The importance: the importance total over the number of whole blocks. Returns 0, and the quotient is in *importance.
+ * Refusals: 5; 1 and 2 of the first plane; 1 and 2 of the second; 3; 19. Then *importance is as it was. */
 int64_t brine_importance(uint32_t depth,
     const uint8_t *first, size_t first_len, size_t width, size_t height, size_t stride, size_t origin,
     const uint8_t *second, size_t second_len, size_t width2, size_t height2, size_t stride2, size_t origin2,
@@ -107,16 +106,17 @@ int64_t brine_importance(uint32_t depth,
 /* The intra costs of a plane. Returns the number of whole blocks, (height / 8) * (width / 8). Each block's cost goes to
  * `costs`, in row order, and its rest stays. In the work plane, `work` with the numbers that end in 2, every whole block is
  * filled with 128, and every other sample stays.
- * Refusals: 5; 1 and 2 of the plane; 1 and 2 of the work plane; 3; 4. Then the work plane and the costs are as they were. */
+ * Refusals: 5; 1 and 2 of the plane; 1 and 2 of the work plane; 3; 19; 4. Then the work plane and the costs are as they
+ * were. */
 int64_t brine_intra_costs(uint32_t depth,
     const uint8_t *samples, size_t samples_len, size_t width, size_t height, size_t stride, size_t origin,
     uint8_t *work, size_t work_len, size_t width2, size_t height2, size_t stride2, size_t origin2,
     uint32_t *costs, size_t costs_len);
 
 /* The threshold of Standard mode from the first `count` costs: their mean times (1.0 - 0.7). Returns 0, and the threshold is
- * in *threshold. With a count of 0 it is a NaN.
- * Refusals: 4, where the list has fewer than `count` costs; 1, where it has as many and `count` is above 2^32. Then
- * *threshold is as it was. */
+ * in *threshold.
+ * Refusals: 19, where `count` is 0; 4, where the list has fewer than `count` costs; 1, where it has as many and `count` is
+ * above 2^32. Then *threshold is as it was. */
 int64_t brine_threshold(const uint32_t *costs, size_t costs_len, size_t count, double *threshold);
 
 /* The Hadamard transform of `list`, 16 numbers in four rows of four, in their place. Returns 0.
@@ -142,7 +142,8 @@ int64_t brine_reduce16(uint32_t depth, size_t factor,
     const uint16_t *samples, size_t samples_len, size_t width, size_t height, size_t stride, size_t origin,
     uint16_t *reduced, size_t reduced_len, size_t width2, size_t height2, size_t stride2, size_t origin2);
 
-/* Refusals of these four: 5; 1 and 2 of the first plane; 1 and 2 of the second; 3; 16 of either. */
+/* Refusals of these four: 5; 1 and 2 of the first plane; 1 and 2 of the second; 3; 19, of the importance and its total; 16 of
+ * either. */
 int64_t brine_plane_difference16(uint32_t depth,
     const uint16_t *first, size_t first_len, size_t width, size_t height, size_t stride, size_t origin,
     const uint16_t *second, size_t second_len, size_t width2, size_t height2, size_t stride2, size_t origin2);
@@ -159,7 +160,8 @@ int64_t brine_importance16(uint32_t depth,
     double *importance);
 
 /* For 128 it has 128 * 2^(depth - 8): 512 at depth 10, 2,048 at depth 12.
- * Refusals: 5; 1 and 2 of the plane; 1 and 2 of the work plane; 3; 4; 16. Then the work plane and the costs are as they were. */
+ * Refusals: 5; 1 and 2 of the plane; 1 and 2 of the work plane; 3; 19; 4; 16. Then the work plane and the costs are as they
+ * were. */
 int64_t brine_intra_costs16(uint32_t depth,
     const uint16_t *samples, size_t samples_len, size_t width, size_t height, size_t stride, size_t origin,
     uint16_t *work, size_t work_len, size_t width2, size_t height2, size_t stride2, size_t origin2,
@@ -171,7 +173,8 @@ int64_t brine_satd8x8_16(const uint16_t *first, size_t first_len, const uint16_t
 /* Strips: the measures of two frames that come a few rows at a time, as some sensors deliver them. Matching strips of both
  * frames are lent from the first row to the last, 0 to 64 rows a call. Wherever they are cut, the difference, the importance
  * total and the second frame's intra costs are those of the whole planes. No second frame need be held: the caller keeps these
- * three places from call to call, and hands them back as they are.
+ * three places from call to call, and hands them back as they are. Frames with a side below 8 have no block, and are refused
+ * from the first strip on (19): their difference is the sum of brine_plane_difference over the strips.
  *   carry   BRINE_CARRY numbers: width, height, depth, the rows that have come, difference and importance total so far
  *   room    16 * width samples or more: the last eight rows of the first frame, and then those of the second
  *   costs   a cost for each whole block of 8 x 8 samples, in row order
@@ -229,6 +232,7 @@ int64_t brine_strips_start(uint32_t depth, size_t width, size_t height, uint64_t
  *   5, where the carry's depth is not 8;
  *   1 and 2 of the first strip; 1 and 2 of the second. A strip of 0 rows passes 2, and its height passes 1;
  *   3, where the strips differ in width or height, or their width is not the carry's;
+ *   19, where the carry's width or height is below 8, with 0 rows too;
  *   4, where costs_len is below (width / 8) * (height / 8) of the carry, or room_len below 16 * its width, with 0 rows too.
  * Then carry, room and costs are as they were. */
 int64_t brine_strips_add(uint64_t *carry, size_t carry_len,
@@ -237,7 +241,7 @@ int64_t brine_strips_add(uint64_t *carry, size_t carry_len,
     uint8_t *room, size_t room_len, uint32_t *costs, size_t costs_len);
 
 /* The same of deeper samples. Refusals: 11; 17; 5, where the carry's depth is neither 10 nor 12; 1 and 2 of the first strip; 1
- * and 2 of the second; 3; 4; 16 of either strip. Then carry, room and costs are as they were. */
+ * and 2 of the second; 3; 19; 4; 16 of either strip. Then carry, room and costs are as they were. */
 int64_t brine_strips_add16(uint64_t *carry, size_t carry_len,
     const uint16_t *first, size_t first_len, size_t width, size_t height, size_t stride, size_t origin,
     const uint16_t *second, size_t second_len, size_t width2, size_t height2, size_t stride2, size_t origin2,
@@ -246,8 +250,8 @@ int64_t brine_strips_add16(uint64_t *carry, size_t carry_len,
 /* Ends them, once all rows have come. Returns the number of whole blocks, (width / 8) * (height / 8), so of the costs. The
  * difference is in *difference and the importance total in *importance_total; the carry is only read. The two places are never
  * NULL, and neither overlaps the carry or the other.
- * Refusals: 11, as of brine_strips_add; 5, where the carry's depth is none of 8, 10 and 12; 18, where fewer rows have come than
- * the carry's height. Then the two places are as they were. */
+ * Refusals: 11, as of brine_strips_add; 5, where the carry's depth is none of 8, 10 and 12; 19, where its width or height is
+ * below 8; 18, where fewer rows have come than its height. Then the two places are as they were. */
 int64_t brine_strips_end(const uint64_t *carry, size_t carry_len, uint64_t *difference, uint64_t *importance_total);
 
 /* ---- the detector ---- */
@@ -338,8 +342,7 @@ int64_t brine_detector_fresh(size_t width, size_t height, uint32_t depth, size_t
  *       than once, or, where there is a score and the last length is above 5 (above 0 with a lookahead below 5), the pair
  *       number of score 0 is not the last number + the offset, as exact numbers;
  *   7, 8, 9;
- *   10, where a list that is read has not set_len - 1 items, or an inter cost is a NaN, infinite or below 0, or an importance
- *       or a threshold is infinite or below 0 (there a NaN is allowed).
+ *   10, where a list that is read has not set_len - 1 items, or holds a NaN, an infinity or a number below 0.
  * Then nothing is written. An accepted call writes the numbers from BRINE_OFFSET to BRINE_COUNT and, if there is a score, the
  * scores and the pair numbers up to the count. */
 int64_t brine_detector_step(uint64_t *numbers, size_t numbers_len, double *scores, size_t scores_len,

@@ -14,12 +14,12 @@ void bars_head(struct page *page)
              "", "release");
 }
 
-/* How many letters: the threshold has as many on every line. Where it is 0, any cost is past the end; a NaN has no bar. */
+/* How many letters: the threshold has as many on every line. Where it is 0, any cost is past the end. */
 static double bar_letters(const struct pair *pair)
 {
     if (pair->threshold > 0)
         return pair->inter / pair->threshold * BAR_MARK;
-    return pair->threshold == 0 && pair->inter > 0 ? BAR_WIDTH + 1 : 0;
+    return pair->inter > 0 ? BAR_WIDTH + 1 : 0;
 }
 
 static void draw_bar(char bar[BAR_WIDTH + 1], const struct pair *pair)
@@ -40,13 +40,12 @@ static const char *bar_text(const struct verdict *verdict)
     return verdict->measured ? "too near the film's end to tell" : "none mode measures nothing";
 }
 
-/* A NaN has a sign on some machines, which says nothing. */
 static void add_measure(struct page *page, int width, bool measured, double value)
 {
-    if (measured && value == value)
+    if (measured)
         page_add(page, " %*.4g", width, value);
     else
-        page_add(page, " %*s", width, measured ? "nan" : "-");
+        page_add(page, " %*s", width, "-");
 }
 
 void bars_add(struct page *page, const struct verdict *verdict)

@@ -23,8 +23,8 @@ void columns_head(struct page *page, bool csv)
     columns_names(page, csv);
 }
 
-/* For people five digits will do; a number that would need an exponent is whole as long as the columns hold it. A NaN has a sign on
-   some machines, which says nothing. */
+/* For people five digits will do; a number that would need an exponent is whole as long as the columns hold it. A log may have
+   NaNs, from before they were refused; a NaN has a sign on some machines, which says nothing. */
 static void score_text(char out[NUMBER_ROOM], bool csv, double value)
 {
     if (csv || value != value)

@@ -49,6 +49,19 @@ static enum status fetch(struct gauge *gauge, bool *ended)
     return answer < 0 ? say_refused(answer, "%s: its frames cannot be reduced", film->name) : DONE;
 }
 
+/* Standard mode measures by whole blocks. The first frame beside itself tells whether there is one, before anything is decided. */
+static enum status want_block(const struct gauge *gauge)
+{
+    const struct plane *frame = gauge->by_strips ? &gauge->strips.kept : &gauge->now;
+    const int64_t answer = plane_importance_total(frame, frame);
+    char fault[FAULT_ROOM];
+    if (answer == -REFUSED_BLOCK) {
+        plane_block_fault(frame, fault);
+        return film_refused(gauge->film, fault, answer);
+    }
+    return answer < 0 ? say_refused(answer, "%s: its frames cannot be measured", gauge->film->name) : DONE;
+}
+
 enum status gauge_start(struct gauge *gauge, struct film *film, struct costs *costs, uint32_t mode, size_t strip_rows)
 {
     *gauge = (struct gauge){.film = film, .costs = costs, .mode = mode, .by_strips = strip_rows > 0};
@@ -56,20 +69,22 @@ enum status gauge_start(struct gauge *gauge, struct film *film, struct costs *co
     if (factor < 0)
         return say_refused(factor, "%s: its sides have no scale factor", film->name);
     gauge->factor = (size_t)factor;
-    const bool measured = mode != BRINE_MODE_NONE;
-    if (!(gauge->by_strips ? strips_make(&gauge->strips, film, gauge->factor, strip_rows, measured) : make_room(gauge)))
+    if (!(gauge->by_strips ? strips_make(&gauge->strips, film, gauge->factor, strip_rows, mode) : make_room(gauge)))
         return say_failed("%s: not enough memory for its frames", film->name);
     bool ended;
     const enum status status = fetch(gauge, &ended);
-    return ended ? say_failed("%s: it has no frame", film->name) : status;
+    if (ended)
+        return say_failed("%s: it has no frame", film->name);
+    return status == DONE && mode == BRINE_MODE_STANDARD ? want_block(gauge) : status;
 }
 
 static int64_t measure_fast(struct gauge *g, struct pair *pair)
 {
     pair->threshold = fast_threshold(g->film->depth);
-    if (g->by_strips)
-        return strips_delta(&g->strips, &pair->inter);
-    return plane_delta(&g->before, &g->now, &pair->inter);
+    if (!g->by_strips)
+        return plane_delta(&g->before, &g->now, &pair->inter);
+    pair->inter = strips_delta(&g->strips);
+    return 0;
 }
 
 /* Importance of the pair; the threshold comes from its second frame. */

@@ -31,8 +31,9 @@ struct gauge {
     struct strips strips; /* with by_strips, instead of the planes and the blocks */
 };
 
-/* Makes room and fetches the film's first frame. The sides must be ones that the library accepts. With strip rows above 0 frames
-   come and are measured in strips of so many rows. gauge_free is due whatever comes of it. */
+/* Makes room and fetches the film's first frame. The sides must be ones that the library accepts. In Standard mode a film without a
+   whole block is refused. With strip rows above 0 frames come and are measured in strips of so many rows. gauge_free is due whatever
+   comes of it. */
 enum status gauge_start(struct gauge *gauge, struct film *film, struct costs *costs, uint32_t mode, size_t strip_rows);
 
 /* Fetches the next frame and measures the pair; *ended where there is none. */

@@ -17,16 +17,21 @@ struct measures {
     double threshold;
 };
 
-static int64_t measure_pair(const struct plane *a, const struct plane *b, struct measures *m)
+/* What Fast mode has of a pair. */
+static int64_t measure_fast(const struct plane *a, const struct plane *b, struct measures *m)
 {
     m->difference = plane_difference(a, b);
-    if (m->difference < 0)
-        return m->difference;
+    return m->difference < 0 ? m->difference : plane_delta(a, b, &m->delta);
+}
+
+/* The same, and what is measured by whole blocks. */
+static int64_t measure_pair(const struct plane *a, const struct plane *b, struct measures *m)
+{
+    const int64_t answer = measure_fast(a, b, m);
+    if (answer < 0)
+        return answer;
     m->total = plane_importance_total(a, b);
-    if (m->total < 0)
-        return m->total;
-    const int64_t answer = plane_delta(a, b, &m->delta);
-    return answer < 0 ? answer : plane_importance(a, b, &m->importance);
+    return m->total < 0 ? m->total : plane_importance(a, b, &m->importance);
 }
 
 /* The threshold of one picture: its intra costs over a work plane and a list made here. */
@@ -51,7 +56,7 @@ static enum status measure_threshold(const struct plane *p, struct measures *m)
     return answer < 0 ? say_refused(answer, "the second picture has no intra costs") : status;
 }
 
-/* Why two pictures were refused: the library looks at each picture's sides, then at both, then at the samples. */
+/* Why two pictures were refused: the library looks at each picture's sides, then at both, then at blocks and samples. */
 static enum status refused(const struct plane *a, const struct plane *b, char **names, int64_t answer)
 {
     char fault[FAULT_ROOM] = "";
@@ -64,6 +69,10 @@ static enum status refused(const struct plane *a, const struct plane *b, char **
     if (answer == -REFUSED_UNLIKE)
         return say_refused(answer, "%s is %zu × %zu and %s %zu × %zu: both must have one size", names[0], a->width, a->height,
                            names[1], b->width, b->height);
+    if (answer == -REFUSED_BLOCK) {
+        plane_block_fault(a, fault);
+        return say_refused(answer, "%s and %s: %s", names[0], names[1], fault);
+    }
     const bool second = !picture_has_bad_side(a);
     const struct plane *p = second ? b : a;
     return picture_refused(names[second], p->width, p->height, p->depth, answer);
@@ -115,7 +124,7 @@ static enum status measure_whole(const struct plane *a, const struct plane *b, c
 static enum status measure_reduced(struct plane *a, struct plane *b, char **names)
 {
     struct measures measures = {0};
-    int64_t answer = measure_pair(a, b, &measures);
+    int64_t answer = measure_fast(a, b, &measures);
 
     if (answer < 0)
         return refused(a, b, names, answer);
@@ -127,7 +136,7 @@ static enum status measure_reduced(struct plane *a, struct plane *b, char **name
         status = picture_shrink(b, names[1], (size_t)factor);
     if (status != DONE)
         return status;
-    answer = measure_pair(a, b, &measures);
+    answer = measure_fast(a, b, &measures);
     return answer < 0 ? refused(a, b, names, answer) : write_measures(&measures, a, (size_t)factor);
 }
 

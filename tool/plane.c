@@ -27,6 +27,15 @@ void plane_free(struct plane *plane)
     *plane = (struct plane){0};
 }
 
+struct plane plane_rows(const struct plane *plane, size_t row, size_t rows)
+{
+    struct plane part = *plane;
+    part.height = rows;
+    part.count = rows * part.width;
+    part.samples = (char *)plane->samples + row * part.width * sample_bytes(part.depth);
+    return part;
+}
+
 size_t plane_read(struct plane *plane, FILE *file, enum byte_order order)
 {
     const size_t got = fread(plane->samples, sample_bytes(plane->depth), plane->count, file);
@@ -53,6 +62,12 @@ bool plane_fault(const struct plane *plane, size_t row, char out[FAULT_ROOM])
         snprintf(out, FAULT_ROOM, "its sample (%zu, %zu) is %u, and the largest of %u bits is %u", i % plane->width,
                  row + i / plane->width, (unsigned)words[i], (unsigned)plane->depth, (1u << plane->depth) - 1);
     return i < count;
+}
+
+void plane_block_fault(const struct plane *plane, char out[FAULT_ROOM])
+{
+    snprintf(out, FAULT_ROOM, "%zu × %zu samples have no whole block of 8 × 8, and standard mode measures by blocks", plane->width,
+             plane->height);
 }
 
 /* A void pointer fits both words. */

@@ -27,6 +27,9 @@ bool plane_make(struct plane *plane, size_t width, size_t height, uint32_t depth
 
 void plane_free(struct plane *plane);
 
+/* Some rows of it, from one on: they lie within it, and are not freed. */
+struct plane plane_rows(const struct plane *plane, size_t row, size_t rows);
+
 /* Reads the samples, and gives how many came: fewer where the file ends before, or cannot be read. */
 size_t plane_read(struct plane *plane, FILE *file, enum byte_order order);
 
@@ -35,6 +38,9 @@ enum { FAULT_ROOM = 128 };
 /* Says in words which sample is the first that is too large for the depth; false where none is. `row` is the number of the plane's
    first row, in a frame. The library judges: this is for the message, once it has refused with 16. */
 bool plane_fault(const struct plane *plane, size_t row, char out[FAULT_ROOM]);
+
+/* Says in words that a plane has no whole block, once the library has refused with 19. */
+void plane_block_fault(const struct plane *plane, char out[FAULT_ROOM]);
 
 /* The library's measures, of planes of one depth. Each answers as the library does. */
 int64_t plane_reduce(const struct plane *plane, size_t factor, struct plane *reduced);

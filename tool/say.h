@@ -34,7 +34,8 @@ enum refusal {
     REFUSED_MARK = 12,
     REFUSED_CUT = 13,
     REFUSED_ORDER = 14,
-    REFUSED_SAMPLE = 16
+    REFUSED_SAMPLE = 16,
+    REFUSED_BLOCK = 19
 };
 
 /* Says why the library refused, with the refusal's number, and gives REFUSED. `answer` is the library's. */

@@ -16,11 +16,11 @@ static void set_rows(struct plane *strip, size_t rows)
     strip->count = strip->width * rows;
 }
 
-bool strips_make(struct strips *s, struct film *film, size_t factor, size_t rows, bool measured)
+bool strips_make(struct strips *s, struct film *film, size_t factor, size_t rows, uint32_t mode)
 {
     const size_t width = film->width / factor, height = film->height / factor;
 
-    *s = (struct strips){.film = film, .factor = factor, .measured = measured};
+    *s = (struct strips){.film = film, .factor = factor, .mode = mode};
     s->rows = rows < height ? rows : height;
     s->block_count = (width / 8) * (height / 8);
     s->blocks = calloc(s->block_count + 1, sizeof *s->blocks);
@@ -29,16 +29,27 @@ bool strips_make(struct strips *s, struct film *film, size_t factor, size_t rows
         && plane_make(&s->room, width, ROOM_ROWS, film->depth);
 }
 
-/* The strip that was read, reduced, is measured against the rows that it takes the place of. A factor of 1 copies it: so the library
-   looks at each sample, in every mode. */
+/* The strip against the rows that it takes the place of. Fast mode asks for the difference alone, which frames without a whole block have
+   too; differences of strips add up. */
+static int64_t measure(struct strips *s, const struct plane *before, size_t row)
+{
+    if (s->mode == BRINE_MODE_STANDARD)
+        return plane_add_strip(s->carry, &s->kept, row, &s->now, &s->room, s->blocks, s->block_count);
+    const int64_t answer = s->mode == BRINE_MODE_FAST ? plane_difference(before, &s->now) : 0;
+    if (answer >= 0)
+        s->difference += (uint64_t)answer;
+    return answer;
+}
+
+/* Takes the strip that was read, reduced. A factor of 1 copies it: so the library looks at each sample, in every mode. */
 static int64_t take(struct strips *s, size_t row)
 {
+    struct plane before = plane_rows(&s->kept, row, s->now.height);
     int64_t answer = plane_reduce(&s->full, s->factor, &s->now);
-    if (answer >= 0 && s->measured && s->begun)
-        answer = plane_add_strip(s->carry, &s->kept, row, &s->now, &s->room, s->blocks, s->block_count);
-    const size_t each = sample_bytes(s->kept.depth);
+    if (answer >= 0 && s->begun)
+        answer = measure(s, &before, row);
     if (answer >= 0)
-        memcpy((char *)s->kept.samples + row * s->kept.width * each, s->now.samples, s->now.count * each);
+        memcpy(before.samples, s->now.samples, s->now.count * sample_bytes(s->now.depth));
     return answer;
 }
 
@@ -56,6 +67,7 @@ static enum status read_strips(struct strips *s)
     int64_t answer = brine_strips_start(s->kept.depth, s->kept.width, s->kept.height, s->carry, BRINE_CARRY);
     char fault[FAULT_ROOM] = "";
 
+    s->difference = 0;
     for (size_t row = 0; row < s->kept.height; row += s->rows) {
         const size_t left = s->kept.height - row;
         set_rows(&s->now, s->rows < left ? s->rows : left);
@@ -84,16 +96,11 @@ enum status strips_fetch(struct strips *s, bool *ended)
     return status;
 }
 
-int64_t strips_delta(const struct strips *s, double *delta)
+double strips_delta(const struct strips *s)
 {
-    uint64_t difference, total;
-    const int64_t answer = brine_strips_end(s->carry, BRINE_CARRY, &difference, &total);
-    if (answer >= 0)
-        *delta = (double)difference / (double)s->kept.count;
-    return answer;
+    return (double)s->difference / (double)s->kept.count;
 }
 
-/* With no whole block both are a NaN, as in the library. */
 int64_t strips_importance(const struct strips *s, double *importance, double *threshold)
 {
     uint64_t difference, total;

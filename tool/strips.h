@@ -15,7 +15,7 @@ struct strips {
     struct film *film;
     size_t factor;     /* by which frames are reduced */
     size_t rows;       /* of a strip, reduced */
-    bool measured;     /* whether frames are measured at all */
+    uint32_t mode;     /* None measures nothing, Fast the difference alone */
     bool begun;        /* whether there is a frame before */
     struct plane full; /* a strip as the film has it, .. */
     struct plane now;  /* .. and reduced */
@@ -24,17 +24,18 @@ struct strips {
     uint32_t *blocks;
     size_t block_count;
     uint64_t carry[BRINE_CARRY];
+    uint64_t difference; /* in Fast mode, so far */
 };
 
 /* Makes room; false where memory ran out. The sides and the factor must be ones that the library accepts. strips_free is due
    whatever comes of it. */
-bool strips_make(struct strips *strips, struct film *film, size_t factor, size_t rows, bool measured);
+bool strips_make(struct strips *strips, struct film *film, size_t factor, size_t rows, uint32_t mode);
 
 /* Fetches the next frame strip by strip, and measures it against the one before, if there is one; *ended where there is none. */
 enum status strips_fetch(struct strips *strips, bool *ended);
 
-/* What was measured of the last two frames. Each answers as the library does. */
-int64_t strips_delta(const struct strips *strips, double *delta);
+/* What was measured of the last two frames: delta in Fast mode, the others in Standard. The second answers as the library does. */
+double strips_delta(const struct strips *strips);
 int64_t strips_importance(const struct strips *strips, double *importance, double *threshold);
 
 void strips_free(struct strips *strips);
