@@ -71,8 +71,8 @@ int main(void)
     const struct test *const lists[] = {
         plane_tests, reduce_tests,        reduce_refused_tests, intra_tests,   transform_tests, nan_tests, edge_tests,
         deep_tests,  deep_reduce_tests,   deep_intra_tests,     depth_tests,   fresh_tests,     step_tests,
-        strip_tests, strip_refused_tests, strip_edge_tests,     pair_tests,    pair_refused_tests, run_tests,
-        meeting_tests, purge_tests,       log_tests,            refused_tests, torn_tests};
+        strip_tests, strip_refused_tests, strip_edge_tests,     block_tests,   pair_tests,      pair_refused_tests,
+        run_tests,   meeting_tests,       purge_tests,          log_tests,     refused_tests,   torn_tests};
     int passed = 0, failed = 0;
 
     for (size_t i = 0; i < sizeof lists / sizeof lists[0]; i++)

@@ -20,6 +20,7 @@ extern const struct test depth_tests[];
 extern const struct test strip_tests[];
 extern const struct test strip_refused_tests[];
 extern const struct test strip_edge_tests[];
+extern const struct test block_tests[];
 extern const struct test reduce_tests[];
 extern const struct test reduce_refused_tests[];
 extern const struct test intra_tests[];

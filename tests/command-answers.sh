@@ -124,12 +124,6 @@ command_run decide --csv --mode standard --inter "$costs" "$flat"
 verdict "standard mode, the cut's line" $?
 [ "$(cuts)" = "0 6" ]
 verdict "standard mode, the cuts" $?
-film y4m 7 7 mono 1 2 3 4 > "$room/small.y4m"
-printf '1\n2\n3\n' > "$costs"
-command_run decide --csv --mode standard --inter "$costs" --lookahead 1 "$room/small.y4m"
-[ "$status" = 0 ] && [ "$(sed -n 3p "$room/out")" = "1,0,2,nan,0,0,nan,0,0,2" ]
-verdict "standard mode without a whole block" $?
-
 command_run decide "$flat"
 [ "$status" = 0 ] && [ "$(wc -l < "$room/out")" = 18 ] && [ "$(tail -n 1 "$room/out")" = "16 frames, 1 cut" ] &&
     awk 'length($0) > 80 { exit 1 }' "$room/out" && grep -Eq '^ +6 +cut +40 ' "$room/out"

@@ -6,11 +6,14 @@ sea='50 52 51 50 53 50 90 92 91 90 93 90 91 93 90 92 90'
 awk 'BEGIN { while (n++ < 16) print n == 6 ? 40 : n % 5 }' > "$room/encoded.costs"
 by_costs="--mode standard --inter $room/encoded.costs"
 
-# What the plain film says: a cut at 6, in each mode with scores. BITS are those of a sample; none stands for 8.
+# What the plain film says: a cut at 6, in each mode with scores; in Standard mode where it has a whole block. BITS are those of a sample; none
+# stands for 8.
 plain() { # WIDTH HEIGHT BITS
     film header "W$1 H$2 Cmono${3-}" FRAME $sea > "$encoded"
     cuts_at "a plain film of $1 × $2 ${3-}" "0 6" "$encoded"
     cp "$room/out" "$room/plain.fast"
+    has_block=$(($1 >= 8 && $2 >= 8))
+    [ $has_block = 1 ] || return
     command_run decide "$encoded" --csv $by_costs
     cp "$room/out" "$room/plain.standard"
     [ "$status" = 0 ] && [ "$(wc -l < "$room/out")" = 18 ]
@@ -21,7 +24,7 @@ plain() { # WIDTH HEIGHT BITS
 reads() { # WORDS LINE
     film header "$1" "$2" $sea > "$encoded"
     gives "'$1', '$2'" "$room/plain.fast" decide "$encoded" --csv
-    gives "'$1', '$2', standard mode" "$room/plain.standard" decide "$encoded" --csv $by_costs
+    [ $has_block = 1 ] && gives "'$1', '$2', standard mode" "$room/plain.standard" decide "$encoded" --csv $by_costs
 }
 
 for sides in '65 47' '64 48' '63 1' '1 1' '483 243'; do

@@ -129,10 +129,6 @@ grep -qF '      1 #####    |                               45.6      91.2 no cut
     grep -qF '      2          |                                  0      91.2 no cut        0   0:20:00.000' "$room/out" &&
     grep -qF '      5 #########|#########################>     1000      91.2 large         0   0:50:00.000' "$room/out"
 verdict "--bars in standard mode" $?
-printf '1\n2\n3\n' > "$room/edge.costs"
-command_run decide "$room/small.y4m" --bars --mode standard --inter "$room/edge.costs" --lookahead 1
-grep -qE '^ +2          \|                                  2       nan no cut        0$' "$room/out"
-verdict "--bars without a threshold" $?
 command_run decide "$storm" --bars --mode none --max 9
 grep -qE '^ +9 none mode measures nothing +- +- CUT +0$' "$room/out"
 verdict "--bars in none mode" $?

@@ -69,12 +69,20 @@ done
 head -n 1 "$expected" > "$kept"
 gives "log of an empty file" "$kept" log "$log" --csv
 
-# A NaN is written as one pattern, whatever the machine makes of 0/0.
-rm -f "$log"
-printf '1\n2\n3\n' > "$costs"
-command_run decide --mode standard --inter "$costs" --lookahead 1 "$room/small.y4m" --log "$log"
-[ "$status" = 0 ] && [ "$(od -An -v -t x1 -j 14 -N 8 "$log" | tr -d ' \n')" = 000000000000f87f ]
-verdict "a NaN in a log" $?
+# A record from before a plane without a block was refused: 2, a NaN, 0, 0, a NaN. It is shown, and a night goes on behind it.
+printf 'SC\001\000\000\000\000\000\000\000\000\000\000\100\000\000\000\000\000\000\370\177' > "$log"
+printf '\000\000\000\000\000\000\000\000\000\000\000\000\000\000\000\000\000\000\000\000\000\000\370\177\000' >> "$log"
+cp "$log" "$kept"
+printf 'frame,cut,inter,importance,backward,forward,threshold\n1,0,2,nan,0,0,nan\n' > "$expected"
+gives "NaNs in an old record" "$expected" log "$log" --csv
+command_run log "$log"
+[ "$status" = 0 ] && [ "$(grep -o nan "$room/out" | wc -l)" = 2 ]
+verdict "NaNs in an old record, for people" $?
+command_run decide "$flat" --csv --log "$log" --first 1
+[ "$status" = 0 ] && head -c 47 "$log" | cmp -s - "$kept" && [ "$(wc -c < "$log")" -gt 47 ]
+verdict "a night behind an old record" $?
+awk -F, -v OFS=, 'NR > 1 && $3 != "" { print $1, $2, $3, $4, $5, $6, $7 }' "$room/out" >> "$expected"
+gives "an old record and a night" "$expected" log "$log" --csv
 rm -f "$log"
 command_run decide "$flat" --mode none --log "$log"
 [ "$status" = 0 ] && [ -f "$log" ] && [ ! -s "$log" ]
@@ -138,7 +146,7 @@ $RUN "$COMMAND" decide - --lookahead 1 --log "$tiny" < "$tiny" > "$room/out" 2> 
 verdict "a log that is the film on the standard input" $?
 cp "$kept" "$tiny"
 ends "a log that is the costs" 2 "and this is the file of inter costs" \
-    decide "$tiny" --lookahead 1 --mode standard --inter "$costs" --log "$room/./costs"
+    decide "$flat" --lookahead 1 --mode standard --inter "$costs" --log "$room/./costs"
 cmp -s "$costs" "$room/kept.costs"
 verdict "a log that is the costs: they stay" $?
 $RUN "$COMMAND" decide "$tiny" --lookahead 1 --log "$log" > "$log" 2> "$room/err"

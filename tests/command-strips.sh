@@ -16,16 +16,22 @@ same() { # NAME ROWS ARGUMENTS..
 }
 all=1,5,7,8,13,64
 
-# Sides that are no multiples of 8; below 8, so that no block is whole; of more than two strips of 64 rows; frames that are reduced, with
-# rows and columns in no whole square. The swell's frames are rough, and every block of a frame has a cost of its own.
+# Sides that are no multiples of 8; below 8, so that no block is whole, which Standard mode refuses; of more than two strips of 64 rows; frames
+# that are reduced, with rows and columns in no whole square. The swell's frames are rough, and every block of a frame has a cost of its own.
 awk 'BEGIN { while (n++ < 14) print n % 4 == 2 ? 900 : n * 7 }' > "$costs"
 while read -r width height depth; do
     film swell "$width" "$height" "$depth" 1 20 24 21 26 22 110 107 112 108 111 60 62 61 64 66 > "$strips"
     what="$width × $height of $depth bits"
     same "$what, fast" $all "$strips" --csv
-    same "$what, standard" $all "$strips" --csv --mode standard --inter "$costs"
     [ "$whole_status" = 0 ] && [ "$(wc -l < "$room/whole-out")" -gt 10 ]
-    verdict "$what: decided" $?
+    verdict "$what, fast: decided" $?
+    same "$what, standard" $all "$strips" --csv --mode standard --inter "$costs"
+    if [ "$width" -ge 8 ] && [ "$height" -ge 8 ]; then
+        [ "$whole_status" = 0 ] && [ "$(wc -l < "$room/whole-out")" -gt 10 ]
+    else
+        [ "$whole_status" = 1 ] && [ ! -s "$room/whole-out" ]
+    fi
+    verdict "$what, standard: decided, or refused" $?
 done << 'END'
 65 47 8
 33 7 8

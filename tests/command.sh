@@ -64,6 +64,7 @@ cuts_at() { # NAME WANT ARGUMENTS..
 . "$(dirname "$0")/command-files.sh"
 . "$(dirname "$0")/command-answers.sh"
 . "$(dirname "$0")/command-reduced.sh"
+. "$(dirname "$0")/command-blocks.sh"
 . "$(dirname "$0")/command-deep.sh"
 . "$(dirname "$0")/command-encoders.sh"
 . "$(dirname "$0")/command-limits.sh"

@@ -88,6 +88,8 @@ static void refusals(void)
     REFUSED(2, c.work_stride = SIZE_MAX / 4);
     REFUSED(3, c.work_width = WIDTH - 1);
     REFUSED(3, c.work_height = HEIGHT - 1);
+    REFUSED(19, c.width = c.work_width = 7);
+    REFUSED(19, c.height = c.work_height = 7, c.costs = 0);
     REFUSED(4, c.costs = BLOCKS - 1);
     REFUSED(4, c.costs = 0);
 }
@@ -101,18 +103,18 @@ static void order(void)
     REFUSED(1, samples[ORIGIN] = large, c.work_height = 0, c.work = 0, c.costs = 0);
     REFUSED(2, samples[ORIGIN] = large, c.work_height = HEIGHT - 1, c.work = 0, c.costs = 0);
     REFUSED(3, samples[ORIGIN] = large, c.work_height = HEIGHT - 1, c.costs = 0);
+    REFUSED(19, samples[ORIGIN] = large, c.width = c.work_width = 7, c.costs = 0);
     REFUSED(4, samples[ORIGIN] = large, c.costs = BLOCKS - 1);
     REFUSED(16, samples[ORIGIN] = large);
 }
 
-/* Each visible sample, in a whole block or not; also where no block is whole. */
+/* Each visible sample, in a whole block or not. */
 static void refusal_16(void)
 {
     for (size_t i = 0; i < WIDTH * HEIGHT; i++) {
         REFUSED(16, samples[ORIGIN + i / WIDTH * STRIDE + i % WIDTH] = large);
         REFUSED(16, samples[ORIGIN + i / WIDTH * STRIDE + i % WIDTH] = UINT16_MAX);
     }
-    REFUSED(16, c.width = c.work_width = 7, c.costs = 0, samples[ORIGIN + 6] = large);
 }
 
 static uint32_t block_cost(size_t x, size_t y, uint16_t flat)
@@ -146,17 +148,6 @@ static void flat_fill(void)
 {
     lent_places(10, 512);
     lent_places(12, 2048);
-}
-
-/* With no whole block nothing is written, and an empty list is enough. */
-static void no_block(void)
-{
-    struct call c = good(12);
-    c.width = c.work_width = 7;
-    c.costs = 0;
-    EXPECT_NUMBER(called(c), 0);
-    EXPECT(lent_same(&work));
-    EXPECT(lent_same(&costs));
 }
 
 /* Blocks that are flat but for the first sample: even grey, black, white, one step. */
@@ -229,11 +220,10 @@ static void satd_largest(void)
 }
 
 const struct test deep_intra_tests[] = {
-    {"deep intra costs: refusals 5, 1, 2, 3, 4", refusals},
+    {"deep intra costs: refusals 5, 1, 2, 3, 19, 4", refusals},
     {"deep intra costs: the order of refusals", order},
     {"deep intra costs: refusal 16", refusal_16},
     {"deep intra costs: work plane and list, byte for byte", flat_fill},
-    {"deep intra costs: no whole block", no_block},
     {"deep intra costs: by hand", by_hand},
     {"SATD of 16 bits: refusal 2", satd_lengths},
     {"SATD of 16 bits: values", satd_values},

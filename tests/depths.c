@@ -61,7 +61,7 @@ static void fast_flash(void)
     }
 }
 
-/* Standard, lookahead 4, a set of two frames and a threshold of 0: the importance alone decides. */
+/* Standard, lookahead 4, a set of two frames and a threshold of 0: the importance alone decides. A NaN is refused. */
 static int64_t standard_at(size_t row, double importance)
 {
     const struct step step = step_of(2, 10, 4, 1000, importance, 0);
@@ -73,7 +73,7 @@ static void importance_threshold(void)
     for (size_t i = 0; i < ROWS; i++) {
         EXPECT_NUMBER(standard_at(i, rows[i].importance), 3);
         EXPECT_NUMBER(standard_at(i, rows[i].below_importance), 2);
-        EXPECT_NUMBER(standard_at(i, NAN), 2);
+        EXPECT_NUMBER(standard_at(i, NAN), -10);
     }
 }
 

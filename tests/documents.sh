@@ -133,6 +133,8 @@ provoke() {
     brinepulley decide film.y4m
     film y4m 64 48 mono10 50 50 1024 > film.y4m
     brinepulley decide film.y4m
+    film y4m 7 8 mono 50 50 > film.y4m
+    brinepulley decide film.y4m --mode standard --inter costs.txt
 }
 mkdir "$room/provoked"
 (cd "$room/provoked" && provoke) > /dev/null 2> "$room/said"

@@ -2,7 +2,6 @@
 #include "detector.h"
 
 #include <float.h>
-#include <math.h>
 #include <string.h>
 
 static void scale(void)
@@ -38,13 +37,13 @@ static void importance(void)
 static void blocks(void)
 {
     uint8_t samples[15 * 8];
-    double value = 0.0;
+    double value = 3.0;
     memset(samples, 9, sizeof samples);
+    EXPECT_NUMBER(brine_importance(8, samples, 56, 7, 8, 7, 0, samples, 56, 7, 8, 7, 0, &value), -19);
+    EXPECT_DOUBLE(value, 3.0);
+    EXPECT_NUMBER(brine_importance_total(8, samples, 56, 7, 8, 7, 0, samples, 56, 7, 8, 7, 0), -19);
     EXPECT_NUMBER(brine_importance(8, samples, 120, 15, 8, 15, 0, samples, 120, 15, 8, 15, 0, &value), 0);
     EXPECT_DOUBLE(value, 0.0);
-    EXPECT_NUMBER(brine_importance(8, samples, 56, 7, 8, 7, 0, samples, 56, 7, 8, 7, 0, &value), 0);
-    EXPECT(value != value);
-    EXPECT_NUMBER(brine_importance_total(8, samples, 56, 7, 8, 7, 0, samples, 56, 7, 8, 7, 0), 0);
 }
 
 static int64_t flat_satd(uint8_t value, uint8_t first)
@@ -119,15 +118,13 @@ static void standard_mode(void)
     EXPECT_DOUBLE(forward, 0.0);
 }
 
-/* An importance of 7 reaches the bound, 6 does not; neither does the double below 7, nor a NaN. */
+/* An importance of 7 reaches the bound, 6 does not; neither does the double below 7. */
 static void importance_reached(void)
 {
     double forward = -1;
     EXPECT_NUMBER(standard_at(7, 0, &forward), 3);
     EXPECT_NUMBER(standard_at(6, 0, &forward), 2);
     EXPECT_NUMBER(standard_at(6.999999999999999, 0, &forward), 2);
-    EXPECT_NUMBER(standard_at(NAN, 0, &forward), 2);
-    EXPECT_NUMBER(standard_at(7, NAN, &forward), 2);
 }
 
 /* Lookahead 4, Fast unscaled, first call, L 2, delta 20. */

@@ -47,7 +47,8 @@ static void fuzz_film(struct bytes input)
         room_found("the film was written to");
 }
 
-/* Films and pictures that nothing is wrong with, of any sides and each depth: they are decided on and measured. */
+/* Films and pictures that nothing is wrong with, of any sides and each depth: they are decided on and measured. But Standard mode refuses
+   those without a whole block. */
 static void fuzz_sides(struct bytes input)
 {
     static const char *const colours[][4] = {{"mono", "420jpeg", "422", "444"},
@@ -58,6 +59,7 @@ static void fuzz_sides(struct bytes input)
     const size_t width = 1 + (low + 256 * (ends & 15)) % 500, height = 1 + (high + 256 * (ends >> 4)) % 500;
     const size_t halves[] = {0, (width + 1) / 2 * ((height + 1) / 2), (width + 1) / 2 * height, width * height};
     const unsigned deeper = how / 8 % 3;
+    const bool has_block = width >= 8 && height >= 8, standard = how >= 192, fast = how / 4 % 2 == 1;
     struct form form = {.depth = 8 + 2 * deeper};
     char header[64];
 
@@ -65,20 +67,20 @@ static void fuzz_sides(struct bytes input)
     put_drawn("film.y4m", header, "FRAME\n", 3, width * height + 2 * halves[how % 4], form, input);
     line_add(&line, "decide");
     line_add(&line, "film.y4m");
-    if (how >= 192) {
+    if (standard) {
         line_add(&line, "--mode");
         line_add(&line, "standard");
         add_costs(&line, 2, 7);
     }
-    const int status = room_run(&line);
+    const int decided = room_run(&line);
     snprintf(header, sizeof header, "P5 %zu %zu %u\n", width, height, (1u << form.depth) - 1);
     form.high_first = true;
     put_drawn("a.pgm", header, "", 1, width * height, form, input);
     draw(&input);
     put_drawn("b.pgm", header, "", 1, width * height, form, input);
-    add_measure(&line, how / 4 % 2 == 1);
-    if (status != 0 || room_run(&line) != 0)
-        room_found("a film and two pictures of %zu × %zu, %u bits, are not answered", width, height, form.depth);
+    add_measure(&line, fast);
+    if (decided != (standard && !has_block) || room_run(&line) != (!fast && !has_block))
+        room_found("a film and two pictures of %zu × %zu, %u bits, are not answered as they must be", width, height, form.depth);
 }
 
 /* A byte makes the film a frame longer or shorter than the lines behind it ask for: those are a file of inter costs. */

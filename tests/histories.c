@@ -61,13 +61,13 @@ static double draw_inter(uint32_t kind, bool peak)
 
 static double draw_importance(void)
 {
-    static const double edges[] = {NAN, 0.0, -0.0, 6.999999999999999, 7, 8.749999999999998, 8.75, 10.499999999999998, 10.5, DBL_MAX};
+    static const double edges[] = {0.0, -0.0, 6.999999999999999, 7, 8.749999999999998, 8.75, 10.499999999999998, 10.5, DBL_MAX};
     return one_in(8) ? edges[draw(COUNT_OF(edges))] : draw(24) * 0.5;
 }
 
 static double draw_threshold(void)
 {
-    static const double edges[] = {NAN, 0.0, -0.0, 5e-324, DBL_MAX};
+    static const double edges[] = {0.0, -0.0, 5e-324, DBL_MAX};
     return one_in(8) ? edges[draw(COUNT_OF(edges))] : draw(16);
 }
 
@@ -114,7 +114,7 @@ void draw_lists(struct step *call)
     }
 }
 
-/* Other bits in each NaN: of either sign, quiet or signalling. */
+/* Other bits in each NaN, which a spoiled call alone has: of either sign, quiet or signalling. */
 static void other_nans(double *items)
 {
     for (size_t i = 0; i < BRINE_SET_LIMIT; i++)
@@ -127,7 +127,7 @@ static void other_nans(double *items)
 struct step call_again(const struct step *call, uint32_t mode)
 {
     struct step again = *call;
-    other_nans(again.inter); /* there is one in a spoiled call alone */
+    other_nans(again.inter);
     if (mode == FAST) {
         draw_rubbish(again.importance, BRINE_SET_LIMIT);
         draw_rubbish(again.threshold, BRINE_SET_LIMIT);
@@ -181,7 +181,7 @@ static void spoil_list(struct step *call, uint32_t mode)
     size_t *const count = which == 0 ? &call->inter_count : which == 1 ? &call->importance_count : &call->threshold_count;
     if (*count > 0 && !one_in(3)) {
         const uint32_t place = draw((uint32_t)*count);
-        items[place] = bad[draw(which == 0 ? COUNT_OF(bad) : COUNT_OF(bad) - 1)]; /* a NaN is bad in `inter` alone */
+        items[place] = bad[draw(COUNT_OF(bad))];
     } else {
         const size_t other = draw(BRINE_SET_LIMIT);
         *count = other < *count ? other : other + 1;

@@ -37,8 +37,8 @@ struct step film_call(const struct film *film, size_t set, uint64_t n, uint64_t 
 /* Other measurements in all items of a call's lists, as of another film. */
 void draw_lists(struct step *call);
 
-/* The same call, as another history may have it: each NaN has bits of its own, and in Fast mode the lists that are not read
-   are rubbish of any length. */
+/* The same call, as another history may have it: the NaN of a spoiled call has bits of its own, and in Fast mode the lists that are
+   not read are rubbish of any length. */
 struct step call_again(const struct step *call, uint32_t mode);
 
 /* Spoils a good call in one way or in several. `last` and `length` are the number and the set length of the last accepted

@@ -75,6 +75,8 @@ static void refusals(void)
     REFUSED(2, c.work_stride = SIZE_MAX / 4);
     REFUSED(3, c.work_width = WIDTH - 1);
     REFUSED(3, c.work_height = HEIGHT - 1);
+    REFUSED(19, c.width = c.work_width = 7);
+    REFUSED(19, c.height = c.work_height = 7, c.costs = 0);
     REFUSED(4, c.costs = BLOCKS - 1);
     REFUSED(4, c.costs = 0);
 }
@@ -115,17 +117,6 @@ static void lent_places(void)
     EXPECT(lent_holds(&costs, want_costs));
 }
 
-/* With no whole block nothing is written, and an empty list is enough. */
-static void no_block(void)
-{
-    struct call c = good;
-    c.width = c.work_width = 7;
-    c.costs = 0;
-    EXPECT_NUMBER(called(c), 0);
-    EXPECT(lent_same(&work));
-    EXPECT(lent_same(&costs));
-}
-
 static struct lent out;
 
 static void threshold_of(const uint32_t *list, size_t length, size_t count, double want)
@@ -140,13 +131,11 @@ static void threshold_of(const uint32_t *list, size_t length, size_t count, doub
 static void thresholds(void)
 {
     const uint32_t list[] = {1000, 3, UINT32_MAX, 77, 5};
-    volatile double keep = 0.7, zero = 0.0; /* so that nothing is worked out at compile time */
+    volatile double keep = 0.7; /* so that nothing is worked out at compile time */
 
     threshold_of(list, 5, 1, 1000.0 * (1.0 - keep));
     threshold_of(list, 5, 2, 1003.0 / 2.0 * (1.0 - keep));
     threshold_of(list, 5, 5, (1000.0 + 3.0 + 4294967295.0 + 77.0 + 5.0) / 5.0 * (1.0 - keep));
-    threshold_of(list, 5, 0, zero / zero);
-    threshold_of(list, 0, 0, zero / zero);
     EXPECT(!same_double(1000.0 * (1.0 - keep), 1000.0 * 0.3));
 }
 
@@ -160,7 +149,8 @@ static void threshold_refusals(void)
     EXPECT(lent_same(&out));
 }
 
-/* More than 2^32 costs that are really there get 1. They are address space alone: a refused call reads none of them. */
+/* More than 2^32 costs that are really there get 1, and a count of 0 gets 19 of that list too. It is address space alone: a refused call
+   reads none of it. */
 static void threshold_too_many(void)
 {
     const size_t count = ((size_t)1 << 32) + 1;
@@ -168,18 +158,18 @@ static void threshold_too_many(void)
     void *list = mmap(NULL, count * sizeof(uint32_t), PROT_NONE, MAP_PRIVATE | MAP_ANONYMOUS | MAP_NORESERVE, -1, 0);
     if (EXPECT(list != MAP_FAILED)) {
         EXPECT_NUMBER(brine_threshold(list, count, count, place), -1);
+        EXPECT_NUMBER(brine_threshold(list, count, 0, place), -19);
         EXPECT(lent_same(&out));
         munmap(list, count * sizeof(uint32_t));
     }
 }
 
 const struct test intra_tests[] = {
-    {"intra costs: refusals 5, 1, 2, 3, 4", refusals},
+    {"intra costs: refusals 5, 1, 2, 3, 19, 4", refusals},
     {"intra costs: the order of refusals", order},
     {"intra costs: work plane and list, byte for byte", lent_places},
-    {"intra costs: no whole block", no_block},
     {"threshold: values", thresholds},
     {"threshold: refusal 4", threshold_refusals},
-    {"threshold: refusal 1", threshold_too_many},
+    {"threshold: refusal 1, and 19 of a long list", threshold_too_many},
     {0},
 };

@@ -8,17 +8,16 @@
 
 enum { HISTORY_PAIRS = 5000 }; /* in each mode */
 enum { STANDARD_CALLS = 10, FAST_CALLS = 5 };
-enum { MOST_BEFORE = 30, FURTHER = 20, SHORTEST_SET = 7, KEPT = 10, GUARD_WORDS = 8, LAST_REFUSAL = 10 };
+enum { MOST_BEFORE = 30, FURTHER = 20, SHORTEST_SET = 7, GUARD_WORDS = 8, LAST_REFUSAL = 10 };
 
 /* What the pairs of each mode must bring at the least, so that the test can fail. It is less than half of what they bring:
    that is the number behind "of", the lower one of the two modes. */
 enum {
-    LEAST_REFUSED = 20000,  /* of 50,221 calls refused with each of 7, 8 and 10: one that changed something would show */
-    LEAST_APART = 500,      /* of 1,179 Standard pairs that nine calls do not bring together: ten are needed */
-    LEAST_OTHER_NANS = 500, /* of 1,550 Standard pairs that meet with a NaN of other bits: these bits do not matter */
-    LEAST_CUTS = 200,       /* of 723 cuts behind the meeting that the scores decided, and not the distance, */
-    LEAST_NO_CUTS = 10000,  /* and of 22,677 such calls without a cut: the answers are not all the same */
-    LEAST_ENDS = 100        /* of 595 pairs that come to the last number, 2^32 - 1: no call is left then */
+    LEAST_REFUSED = 20000, /* of 50,221 calls refused with each of 7, 8 and 10: one that changed something would show */
+    LEAST_APART = 500,     /* of 1,179 Standard pairs that nine calls do not bring together: ten are needed */
+    LEAST_CUTS = 200,      /* of 723 cuts behind the meeting that the scores decided, and not the distance, */
+    LEAST_NO_CUTS = 10000, /* and of 22,677 such calls without a cut: the answers are not all the same */
+    LEAST_ENDS = 100       /* of 595 pairs that come to the last number, 2^32 - 1: no call is left then */
 };
 
 _Static_assert(MOST_BEFORE + STANDARD_CALLS + FURTHER + BRINE_SET_LIMIT < FILM_PAIRS, "the film is long enough");
@@ -45,7 +44,7 @@ static uint32_t mode, depth;
 static struct {
     size_t refused[LAST_REFUSAL + 1]; /* calls, by number */
     size_t apart;                     /* pairs that had not met one call before they must */
-    size_t firsts, releases, nans;    /* pairs that met with other first numbers, other release numbers, other bits in a NaN */
+    size_t firsts, releases;          /* pairs that met with other first numbers, other release numbers */
     size_t cuts, no_cuts;             /* further calls that the decision rule decided, and not the distance */
     size_t ends;                      /* pairs that came to the last number */
 } seen;
@@ -138,7 +137,6 @@ static bool both_meet(uint64_t start, uint64_t calls)
     }
     seen.firsts += old.now.numbers[FIRST] != fresh.now.numbers[FIRST];
     seen.releases += old.now.numbers[RELEASE] != fresh.now.numbers[RELEASE];
-    seen.nans += memcmp(old.now.scores, fresh.now.scores, KEPT * BRINE_SCORE_DOUBLES * sizeof(double)) != 0;
     return EXPECT(same_states());
 }
 
@@ -255,7 +253,6 @@ static void standard(void)
     if (!all_pairs(STANDARD))
         return;
     EXPECT(seen.apart >= LEAST_APART);
-    EXPECT(seen.nans >= LEAST_OTHER_NANS);
     EXPECT_NUMBER((int64_t)seen.releases, 0);
 }
 

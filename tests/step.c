@@ -187,42 +187,42 @@ static void refusal_9(void)
     EXPECT_NUMBER(detector_step(&detector, &one), 0);
 }
 
+/* Each list that Standard mode reads, and the one that Fast mode does. */
 static void refusal_10(void)
 {
-    const double inter[] = {NAN, INFINITY, -INFINITY, -1.0, -5e-324};
-    const double others[] = {INFINITY, -INFINITY, -1.0, -5e-324};
-
+    const double bad[] = {NAN, -NAN, INFINITY, -INFINITY, -1.0, -5e-324};
     REFUSED(10, s.inter_count = 5);
     REFUSED(10, s.inter_count = 7);
     REFUSED(10, s.importance_count = 5);
     REFUSED(10, s.importance_count = 7);
     REFUSED(10, s.threshold_count = 0);
     REFUSED(10, s.threshold_count = 7);
-    for (size_t item = 0; item < 6; item++) {
-        for (size_t i = 0; i < sizeof inter / sizeof inter[0]; i++)
-            REFUSED(10, s.inter[item] = inter[i]);
-        for (size_t i = 0; i < sizeof others / sizeof others[0]; i++) {
-            REFUSED(10, s.importance[item] = others[i]);
-            REFUSED(10, s.threshold[item] = others[i]);
+    for (size_t item = 0; item < 6; item++)
+        for (size_t i = 0; i < sizeof bad / sizeof bad[0]; i++) {
+            REFUSED(10, s.inter[item] = bad[i]);
+            REFUSED(10, s.importance[item] = bad[i]);
+            REFUSED(10, s.threshold[item] = bad[i]);
+            struct step fast = next_step();
+            fast.inter[item] = bad[i];
+            running(FAST, 5);
+            detector_refuses(&detector, &fast, 10);
         }
-    }
 }
 
-/* What looks bad and is accepted: NaN importance and threshold, -0.0, lists that the mode does not read. */
+/* What looks bad and is accepted: -0.0, and lists that the mode does not read. */
 static void accepted(void)
 {
     struct step step = next_step();
     running(STANDARD, 5);
-    step.importance[3] = step.threshold[2] = NAN;
     step.inter[1] = step.importance[1] = step.threshold[1] = -0.0;
     EXPECT(detector_step(&detector, &step) >= 2);
     running(FAST, 5);
-    step = step_of(7, 30, 12, 5, NAN, -1);
+    step = step_of(7, 30, 12, 5, NAN, NAN);
+    step.threshold[2] = -1;
     step.importance_count = 3;
-    step.threshold_count = 0;
     EXPECT(detector_step(&detector, &step) >= 2);
     running(NONE, 5);
-    step = step_of(7, 30, 12, -1, NAN, -1);
+    step = step_of(7, 30, 12, NAN, NAN, -1);
     step.inter_count = step.importance_count = step.threshold_count = 2;
     EXPECT_NUMBER(detector_step(&detector, &step), 0);
 }

@@ -6,6 +6,7 @@
 
 static struct driver driver;
 static uint16_t frames[2][MOST_SAMPLES]; /* of bytes the first half */
+static struct walled memory[2];          /* a strip of each */
 
 /* Rough, nearly alike, or of the least and the largest samples alone. */
 static void draw_frames(uint32_t depth, size_t count)
@@ -26,13 +27,13 @@ static struct strip whole(size_t which, size_t width, size_t height)
 
 /* Rows of a frame in memory of their own. What is not visible is as large as can be. Of one row the stride bears on nothing, and of no
    row neither does the origin. */
-static struct strip lend(struct walled *memory, uint32_t depth, struct strip frame, size_t row, size_t rows)
+static struct strip lend(struct walled *place, uint32_t depth, struct strip frame, size_t row, size_t rows)
 {
     struct strip s = {.width = frame.width, .height = rows};
     s.stride = s.width + some(6);
     s.origin = some(8);
     s.length = (rows == 0 ? 0 : s.origin + (rows - 1) * s.stride + s.width) + some(4);
-    void *at = walled_make(memory, s.length * word_bytes(depth), pick(2) == 0);
+    void *at = walled_make(place, s.length * word_bytes(depth), pick(2) == 0);
     for (size_t i = 0; i < s.length; i++)
         sample_put(depth, at, i, UINT16_MAX);
     for (size_t i = 0; i < rows * s.width; i++)
@@ -42,14 +43,13 @@ static struct strip lend(struct walled *memory, uint32_t depth, struct strip fra
     if (rows == 0 && pick(2) == 0)
         s.origin = SIZE_MAX;
     s.samples = s.length == 0 ? NULL : at;
-    walled_keep(memory);
+    walled_keep(place);
     return s;
 }
 
 /* The next rows of both frames go to the driver, each strip from memory of its own. */
 static bool hand_on(struct strip a, struct strip b, size_t row, size_t rows)
 {
-    static struct walled memory[2];
     const struct strip first = lend(&memory[0], driver.depth, a, row, rows);
     const struct strip second = lend(&memory[1], driver.depth, b, row, rows);
     return driver_add(&driver, first, second) && EXPECT(walled_same(&memory[0]) && walled_same(&memory[1]));
@@ -61,7 +61,7 @@ static void ends_as(struct strip a, struct strip b)
     uint32_t costs[MOST_COSTS];
     const int64_t blocks = whole_costs(driver.depth, b, costs, MOST_COSTS);
     driver_end(&driver, whole_difference(driver.depth, a, b), whole_total(driver.depth, a, b));
-    EXPECT(blocks == 0 || memcmp(costs, driver.costs.at, (size_t)blocks * sizeof costs[0]) == 0);
+    EXPECT(blocks > 0 && memcmp(costs, driver.costs.at, (size_t)blocks * sizeof costs[0]) == 0);
 }
 
 static size_t least(size_t a, size_t b)
@@ -92,13 +92,13 @@ static bool film(uint32_t depth, size_t width, size_t height)
     return true;
 }
 
-/* Most are low. The first that goes wrong is enough. */
+/* Most are low, the least have one block. The first that goes wrong is enough. */
 static void films(uint32_t depth)
 {
     bool well = true;
     for (int i = 0; i < 4000 && well; i++) {
-        const size_t width = 1 + pick(MOST_WIDTH);
-        well = film(depth, width, 1 + pick(pick(4) == 0 ? MOST_HEIGHT : 41));
+        const size_t width = 8 + pick(MOST_WIDTH - 7);
+        well = film(depth, width, 8 + pick(pick(4) == 0 ? MOST_HEIGHT - 7 : 34));
     }
 }
 
@@ -117,16 +117,33 @@ static void films_12(void)
     films(12);
 }
 
-/* No block is whole: nothing joins the importance total, and no cost is written. Differences are there all the same. */
+/* No strip is taken, and there is no end. The difference needs no block: those of the strips, as planes of their own, add up to the
+   frames'. */
+static void refused_film(uint32_t depth, size_t width, size_t height)
+{
+    const struct strip a = whole(0, width, height), b = whole(1, width, height);
+    int64_t difference = 0;
+    draw_frames(depth, width * height);
+    driver_start(&driver, depth, width, height);
+    for (size_t row = 0, rows; row < height; row += rows) {
+        rows = draw_rows(height - row);
+        const struct strip first = lend(&memory[0], depth, a, row, rows), second = lend(&memory[1], depth, b, row, rows);
+        driver_refuses(&driver, first, second, 19);
+        EXPECT(walled_same(&memory[0]) && walled_same(&memory[1]));
+        difference += rows == 0 ? 0 : whole_difference(depth, first, second);
+    }
+    end_with(-19, driver.want_carry, BRINE_CARRY);
+    EXPECT_NUMBER(difference, whole_difference(depth, a, b));
+}
+
+/* Frames with a side below 8. */
 static void no_block(void)
 {
     for (uint32_t depth = 8; depth <= 12; depth += 2)
         for (size_t side = 1; side < 8; side++) {
-            film(depth, side, MOST_HEIGHT);
-            EXPECT_NUMBER((int64_t)driver.want_carry[CARRY_TOTAL], 0);
-            film(depth, MOST_WIDTH, side);
-            EXPECT_NUMBER((int64_t)driver.want_carry[CARRY_TOTAL], 0);
-            film(depth, side, side);
+            refused_film(depth, side, MOST_HEIGHT);
+            refused_film(depth, MOST_WIDTH, side);
+            refused_film(depth, side, side);
         }
 }
 
@@ -251,7 +268,7 @@ const struct test strip_tests[] = {
     {"strips: four thousand films of 12 bits", films_12},
     {"strips: every cut in two, and strips of each length", every_cut},
     {"strips: no rows at the start, in the middle and at the end", no_rows},
-    {"strips: no whole block", no_block},
+    {"strips: no whole block, refusal 19", no_block},
     {"strips: by hand", by_hand},
     {"strips: sides of 8,192, more than 32 bits", large_sides},
     {0},

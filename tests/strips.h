@@ -80,10 +80,16 @@ void driver_start(struct driver *driver, uint32_t depth, size_t width, size_t he
    planes, on eight held rows. */
 bool driver_add(struct driver *driver, struct strip a, struct strip b);
 
+/* Lends two strips that get this refusal: all three places must hold what they held. */
+bool driver_refuses(struct driver *driver, struct strip a, struct strip b, int64_t number);
+
 /* Puts a value over a sample of the room, as a caller should not. */
 void driver_spoil(struct driver *driver, size_t place, unsigned value);
 
 /* Ends, and compares with these; the number of blocks is the sides'. */
 void driver_end(struct driver *driver, int64_t difference, int64_t total);
+
+/* A carry by hand is lent to the end, which answers this. The two places hold the carry's totals then, or what they held before. */
+void end_with(int64_t answer, const uint64_t numbers[BRINE_CARRY], size_t length);
 
 #endif

@@ -173,14 +173,25 @@ static void want_row(struct driver *d, struct strip a, struct strip b, size_t i)
         want_blocks(d, y / 8);
 }
 
+/* Lends the strips, and compares. */
+static bool answers(struct driver *d, struct strip a, struct strip b, int64_t want)
+{
+    const int64_t answer = add_strips(d->depth, (uint64_t *)(void *)d->carry.at, BRINE_CARRY, a, b, d->room.at, d->room_len,
+                                      (uint32_t *)(void *)d->costs.at, d->costs_len);
+    return EXPECT_NUMBER(answer, want) && EXPECT(walled_holds(&d->carry, d->want_carry))
+        && EXPECT(walled_holds(&d->room, d->want_room)) && EXPECT(walled_holds(&d->costs, d->want_costs));
+}
+
 bool driver_add(struct driver *d, struct strip a, struct strip b)
 {
     for (size_t i = 0; i < a.height; i++)
         want_row(d, a, b, i);
-    const int64_t answer = add_strips(d->depth, (uint64_t *)(void *)d->carry.at, BRINE_CARRY, a, b, d->room.at, d->room_len,
-                                      (uint32_t *)(void *)d->costs.at, d->costs_len);
-    return EXPECT_NUMBER(answer, (int64_t)d->want_carry[CARRY_ROWS]) && EXPECT(walled_holds(&d->carry, d->want_carry))
-        && EXPECT(walled_holds(&d->room, d->want_room)) && EXPECT(walled_holds(&d->costs, d->want_costs));
+    return answers(d, a, b, (int64_t)d->want_carry[CARRY_ROWS]);
+}
+
+bool driver_refuses(struct driver *d, struct strip a, struct strip b, int64_t number)
+{
+    return answers(d, a, b, -number);
 }
 
 void driver_spoil(struct driver *d, size_t place, unsigned value)
@@ -189,15 +200,27 @@ void driver_spoil(struct driver *d, size_t place, unsigned value)
     sample_put(d->depth, d->want_room, place, value);
 }
 
-void driver_end(struct driver *d, int64_t difference, int64_t total)
+/* The carry is only read. */
+static void end_lent(struct walled *carry, size_t length, int64_t answer, uint64_t difference, uint64_t total)
 {
     static struct walled places[2];
-    const uint64_t want[2] = {(uint64_t)difference, (uint64_t)total};
     uint64_t *one = walled_make(&places[0], sizeof *one, true), *other = walled_make(&places[1], sizeof *other, false);
-    walled_keep(&d->carry);
-    EXPECT_NUMBER(brine_strips_end((const uint64_t *)(void *)d->carry.at, BRINE_CARRY, one, other),
-                  (int64_t)((d->width / 8) * (d->height / 8)));
-    EXPECT(walled_same(&d->carry));
-    EXPECT(walled_holds(&places[0], &want[0]));
-    EXPECT(walled_holds(&places[1], &want[1]));
+    walled_keep(carry);
+    EXPECT_NUMBER(brine_strips_end((const uint64_t *)(void *)carry->at, length, one, other), answer);
+    EXPECT(walled_same(carry));
+    EXPECT(answer < 0 ? walled_same(&places[0]) : walled_holds(&places[0], &difference));
+    EXPECT(answer < 0 ? walled_same(&places[1]) : walled_holds(&places[1], &total));
+}
+
+void driver_end(struct driver *d, int64_t difference, int64_t total)
+{
+    const size_t blocks = (d->width / 8) * (d->height / 8);
+    end_lent(&d->carry, BRINE_CARRY, (int64_t)blocks, (uint64_t)difference, (uint64_t)total);
+}
+
+void end_with(int64_t answer, const uint64_t numbers[BRINE_CARRY], size_t length)
+{
+    static struct walled carry;
+    memcpy(walled_make(&carry, BRINE_CARRY * sizeof(uint64_t), true), numbers, BRINE_CARRY * sizeof(uint64_t));
+    end_lent(&carry, length, answer, numbers[CARRY_DIFFERENCE], numbers[CARRY_TOTAL]);
 }

@@ -3,7 +3,7 @@
 
 #include <string.h>
 
-static struct walled carry, places[2];
+static struct walled carry;
 
 /* Nothing is written by a start that is refused. */
 static void start_refused(int64_t number, uint32_t depth, size_t width, size_t height, size_t length)
@@ -45,20 +45,7 @@ static void starts_refused(void)
     }
 }
 
-/* A carry by hand is lent to the end. The two places hold the totals, or what they held before. */
-static void end_with(int64_t answer, const uint64_t numbers[BRINE_CARRY], size_t length)
-{
-    uint64_t *lent = walled_make(&carry, BRINE_CARRY * sizeof(uint64_t), true);
-    uint64_t *difference = walled_make(&places[0], sizeof *difference, true), *total = walled_make(&places[1], sizeof *total, false);
-    memcpy(lent, numbers, BRINE_CARRY * sizeof(uint64_t));
-    walled_keep(&carry);
-    EXPECT_NUMBER(brine_strips_end(lent, length, difference, total), answer);
-    EXPECT(walled_same(&carry));
-    EXPECT(answer < 0 ? walled_same(&places[0]) && walled_same(&places[1])
-                      : walled_holds(&places[0], &numbers[CARRY_DIFFERENCE]) && walled_holds(&places[1], &numbers[CARRY_TOTAL]));
-}
-
-/* With one number of a good carry changed. */
+/* The end of a good carry with one number changed. */
 static void end_of(int64_t answer, uint32_t depth, size_t number, uint64_t value)
 {
     uint64_t numbers[BRINE_CARRY] = {20, 17, depth, 17, 20 * 17 * 200, 44};
@@ -74,7 +61,7 @@ static void ends(void)
         end_of(4, depth, CARRY_DIFFERENCE, most);
         end_of(4, depth, CARRY_TOTAL, most);
         end_with(1, (uint64_t[]){15, 15, depth, 15, 9, 8}, BRINE_CARRY);
-        end_with(0, (uint64_t[]){8192, 7, depth, 7, 9, 0}, BRINE_CARRY);
+        end_with(1024, (uint64_t[]){8192, 8, depth, 8, 9, 8}, BRINE_CARRY);
         end_with(1024 * 1024, (uint64_t[]){8192, 8192, depth, 8192, most, most}, BRINE_CARRY);
     }
 }
@@ -98,12 +85,14 @@ static void ends_refused(void)
         end_of(-11, depth, CARRY_TOTAL, most + 1);
         end_of(-18, depth, CARRY_HEIGHT, 18);
         end_of(-18, depth, CARRY_HEIGHT, 8192);
+        end_with(-19, (uint64_t[]){7, 8192, depth, 8192, 9, 0}, BRINE_CARRY);
+        end_with(-19, (uint64_t[]){8192, 7, depth, 7, 9, 0}, BRINE_CARRY);
     }
     for (size_t i = 0; i < sizeof none / sizeof none[0]; i++)
         end_of(-5, 8, CARRY_DEPTH, none[i]);
 }
 
-/* 11, 5, 18: each two of them together. A depth that is none leaves the totals alone. */
+/* 11, 5, 18: each two of them together. A depth that is none leaves the totals alone. 19, between 5 and 18, is in blocks.c. */
 static void end_order(void)
 {
     end_with(-11, (uint64_t[]){0, 17, 9, 3, 0, 0}, BRINE_CARRY);

@@ -148,6 +148,13 @@ static void refusal_5(void)
     REFUSED(5, c.carry[CARRY_DEPTH] = c.depth == 8 ? 12 : 8);
 }
 
+/* Frames of seven rows, the last six of which are lent: they have no block. */
+static void make_low(struct call *c)
+{
+    c->carry[CARRY_HEIGHT] = 1 + ROWS;
+    c->carry[CARRY_ROWS] = 1;
+}
+
 static void refusals_of_strips(void)
 {
     REFUSED(1, c.a.width = 0);
@@ -170,6 +177,8 @@ static void refusals_of_strips(void)
     REFUSED(3, c.a.height--);
     REFUSED(3, c.a.width--, c.b.width--);
     REFUSED(3, c.carry[CARRY_WIDTH]--);
+    REFUSED(19, make_low(&c));
+    REFUSED(19, c.carry[CARRY_WIDTH] = c.a.width = c.b.width = 7);
     REFUSED(4, c.costs = BLOCKS - 1);
     REFUSED(4, c.costs = 0);
     REFUSED(4, c.room = ROOM - 1);
@@ -195,6 +204,8 @@ static void refusals_without_rows(void)
     REFUSED(1, WITHOUT, c.b.width = c.b.stride = 8193);
     REFUSED(3, WITHOUT, c.b.width--);
     REFUSED(3, WITHOUT, c.a.width--, c.b.width--);
+    REFUSED(19, WITHOUT, make_low(&c));
+    REFUSED(19, WITHOUT, make_low(&c), c.carry[CARRY_ROWS] = 1 + ROWS);
     REFUSED(4, WITHOUT, c.costs--);
     REFUSED(4, WITHOUT, c.room--);
     ACCEPTED(HEIGHT, WITHOUT, c.carry[CARRY_ROWS] = HEIGHT);
@@ -211,7 +222,8 @@ static void refusals_of_one_without_rows(void)
     REFUSED(2, c.b.height = 0, c.a.length--);
 }
 
-/* One misdeed for each test, in the order of the tests. Any two of them apply together. */
+/* One misdeed for each test, in the order of the tests. Any two of them apply together, but for no block and too few costs: no list is
+   too short for no block. */
 static void spoil(struct call *c, size_t misdeed)
 {
     switch (misdeed) {
@@ -223,18 +235,19 @@ static void spoil(struct call *c, size_t misdeed)
     case 5: c->b.stride = 0; break;
     case 6: c->b.origin = SIZE_MAX; break;
     case 7: c->b.width--; break;
-    case 8: c->costs--; break;
-    case 9: c->room--; break;
+    case 8: make_low(c); break;
+    case 9: c->costs--; break;
+    case 10: c->room--; break;
     default: sample_put(c->depth, first, 5, UINT16_MAX); break;
     }
 }
 
 static void order(void)
 {
-    static const int64_t numbers[] = {11, 17, 5, 1, 2, 1, 2, 3, 4, 4, 16};
-    for (size_t one = 0; one < 11; one++)
-        for (size_t other = one; other < 11; other++)
-            if (one < 10) {
+    static const int64_t numbers[] = {11, 17, 5, 1, 2, 1, 2, 3, 19, 4, 4, 16};
+    for (size_t one = 0; one < 12; one++)
+        for (size_t other = one; other < 12; other++)
+            if (one < 11) {
                 REFUSED(numbers[one], spoil(&c, one), spoil(&c, other));
             } else {
                 struct call c = good(12);
@@ -265,7 +278,7 @@ const struct test strip_refused_tests[] = {
     {"strips: totals by the carry's depth, and then 5", totals_by_depth},
     {"strips: refusal 17", refusal_17},
     {"strips: refusal 5", refusal_5},
-    {"strips: refusals 1, 2, 3, 4", refusals_of_strips},
+    {"strips: refusals 1, 2, 3, 19, 4", refusals_of_strips},
     {"strips: refusals of strips without rows", refusals_without_rows},
     {"strips: refusals of one strip without rows", refusals_of_one_without_rows},
     {"strips: the order of any two refusals", order},
