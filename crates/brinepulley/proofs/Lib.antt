@@ -5,3 +5,5 @@ pub mod Histories
 pub mod Contracts
 pub mod DeepUnique
 pub mod SensorUnique
+pub mod Quotients
+pub mod Promised

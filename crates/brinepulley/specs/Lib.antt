@@ -1,3 +1,4 @@
 pub mod Coded
 pub mod Needs
 pub mod Histories
+pub mod Promises
