@@ -2,6 +2,7 @@
    done. The comparison must find each of them. Linked in front of the library by the linker's --wrap. */
 #include "misdeeds.h"
 #include "brinepulley.h"
+#include <math.h>
 #include <stdlib.h>
 #include <string.h>
 
@@ -70,6 +71,7 @@ int64_t __wrap_brine_importance(PLANES, double *importance)
 {
     int64_t r = __real_brine_importance(GIVEN, importance);
     if (does("importance-when-refused") && r < 0) *importance = 0;
+    if (does("importance-when-19") && r == -19) *importance = NAN;
     return r;
 }
 

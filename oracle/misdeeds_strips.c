@@ -41,6 +41,7 @@ int64_t __wrap_brine_strips_add(STRIPS(uint8_t))
     if (does("strips-shift-the-totals") && r >= 0) carry[TOTAL]++, carry[DIFFERENCE]--;
     if (does("strips-lose-a-row") && r > 0) carry[ROWS]--;
     if (does("strips-carry-when-refused") && r < 0) spoil(carry, carry_len * sizeof *carry);
+    if (does("strips-carry-when-19") && r == -19) carry[ROWS] += height;
     if (does("strips-room-when-refused") && r < 0) spoil(room, room_len);
     if (does("strips-costs-when-refused") && r < 0) spoil(costs, costs_len * sizeof *costs);
     if (does("strips-room-of-the-next-row") && r >= 0) room[next_row(carry)] ^= 1;

@@ -7,7 +7,7 @@ use crate::run::ask_refused;
 use crate::sizes::{COUNT, LAST, LENGTH, OFFSET, PAIRS, ROOM, SCORE, SET_LIMIT};
 use crate::state::{Call, State};
 use crate::tally::Ran;
-use crate::values::{bad_inter, bad_other};
+use crate::values::forbidden;
 
 const ODD: [u64; 6] = [0, 7, 9, 10, 1 << 32, u64::MAX];
 
@@ -61,8 +61,9 @@ fn state(r: &mut Random, s: &mut State, is_deep: bool) {
         }
         9 | 10 => pair_cases::draw(r, s),
         _ => {
-            let at = r.below(count.clamp(1, room)) as usize;
-            s.places[at * SCORE] = bad_inter(r);
+            // 11 asks for the inter cost alone: in the other four this is let in.
+            let (at, part) = (r.below(count.clamp(1, room)) as usize, r.of(&[0, 0, 1, 2, 3, 4]));
+            s.places[at * SCORE + part] = forbidden(r);
         }
     }
 }
@@ -73,6 +74,11 @@ fn resize(c: &mut Call, set: u64) {
     for list in [&mut c.inter, &mut c.importance, &mut c.threshold] {
         list.resize(set as usize - 1, 1.0);
     }
+}
+
+/// One of the three lists.
+fn any_list<'a>(r: &mut Random, c: &'a mut Call) -> &'a mut Vec<f64> {
+    [&mut c.inter, &mut c.importance, &mut c.threshold].into_iter().nth(r.below(3) as usize).unwrap()
 }
 
 /// One wrong thing in a call.
@@ -87,25 +93,18 @@ fn call(r: &mut Random, s: &State, c: &mut Call) {
             resize(c, if free { SET_LIMIT + 1 } else { s.numbers[LENGTH] + 1 });
         }
         4 => {
-            let list = r.below(3);
-            let list = [&mut c.inter, &mut c.importance, &mut c.threshold].into_iter().nth(list as usize).unwrap();
+            let list = any_list(r, c);
             match r.below(3) {
                 0 => list.push(1.0),
                 1 => drop(list.pop()),
                 _ => list.clear(),
             }
         }
-        5 | 6 => {
-            let at = r.below(c.inter.len().max(1) as u64) as usize;
-            if let Some(x) = c.inter.get_mut(at) {
-                *x = bad_inter(r);
-            }
-        }
-        7 => {
-            let list = if r.once_in(2) { &mut c.importance } else { &mut c.threshold };
+        5..=7 => {
+            let list = any_list(r, c);
             let at = r.below(list.len().max(1) as u64) as usize;
             if let Some(x) = list.get_mut(at) {
-                *x = bad_other(r);
+                *x = forbidden(r);
             }
         }
         _ => resize(c, 1),

@@ -1,7 +1,7 @@
 //! Samples of 16 bits that are too large for their depth, or only look so: what refusal 16 is about. Of bytes there are none, and
 //! nothing is drawn for them.
 use crate::desk::Desk;
-use crate::edges::flat;
+use crate::edges::{both, flat};
 use crate::list_cases::satd_of;
 use crate::measures_reading::{self as read, Lent};
 use crate::plane_cases::{intra_of, pair_of};
@@ -87,35 +87,27 @@ fn is_due(desk: &mut Desk, found: u32, due: u32) {
     }
 }
 
-/// Two planes, as measures of two and as a plane with its work plane; how many costs there is room for; what is due of each.
-fn both(desk: &mut Desk, depth: u64, a: &Lent<u16>, b: &Lent<u16>, room: usize, due: [u32; 2]) {
-    is_due(desk, read::planes_fault(depth, a, b), due[0]);
-    is_due(desk, read::intra_fault(depth, a, b, room), due[1]);
-    pair_of(desk, depth, a, b);
-    intra_of(desk, depth, a, b, &vec![7; room]);
-}
-
 /// Samples at 2 to the depth and one below, in either plane and in both, within whole blocks and outside; and calls to which 16
 /// and another refusal apply.
 fn measures(desk: &mut Desk, depth: u64) {
     let limit = most(depth) + 1;
     let (sound, large) = (framed(), with(0, 0, limit));
-    both(desk, depth, &sound, &sound, 1, [0, 0]);
-    both(desk, depth, &with(0, 0, limit - 1), &with(9, 8, limit - 1), 1, [0, 0]);
+    both(desk, depth, &sound, &sound, 1, [0; 3]);
+    both(desk, depth, &with(0, 0, limit - 1), &with(9, 8, limit - 1), 1, [0; 3]);
     for (x, y) in [(0, 0), (7, 7), (8, 0), (9, 8), (9, 0), (0, 8)] {
-        both(desk, depth, &with(x, y, limit), &sound, 1, [16, 16]);
-        both(desk, depth, &sound, &with(x, y, limit), 1, [16, 0]);
+        both(desk, depth, &with(x, y, limit), &sound, 1, [16; 3]);
+        both(desk, depth, &sound, &with(x, y, limit), 1, [16, 16, 0]);
     }
-    both(desk, depth, &large, &large, 1, [16, 16]);
-    both(desk, depth, &with(5, 3, LARGEST), &sound, 1, [16, 16]);
-    both(desk, depth, &large, &sound, 0, [16, 4]);
-    both(desk, depth, &large, &Lent { width: 9, ..sound.clone() }, 0, [3, 3]);
-    both(desk, depth, &sound, &Lent { height: 8, ..large.clone() }, 1, [3, 3]);
-    both(desk, depth, &large, &Lent { samples: vec![3; 108], ..sound.clone() }, 1, [2, 2]);
-    both(desk, depth, &large, &Lent { width: 0, ..sound.clone() }, 1, [1, 1]);
+    both(desk, depth, &large, &large, 1, [16; 3]);
+    both(desk, depth, &with(5, 3, LARGEST), &sound, 1, [16; 3]);
+    both(desk, depth, &large, &sound, 0, [16, 16, 4]);
+    both(desk, depth, &large, &Lent { width: 9, ..sound.clone() }, 0, [3; 3]);
+    both(desk, depth, &sound, &Lent { height: 8, ..large.clone() }, 1, [3; 3]);
+    both(desk, depth, &large, &Lent { samples: vec![3; 108], ..sound.clone() }, 1, [2; 3]);
+    both(desk, depth, &large, &Lent { width: 0, ..sound.clone() }, 1, [1; 3]);
     for other in [8, 9, 11, 16] {
-        both(desk, other, &large, &sound, 1, [5, 5]);
-        both(desk, other, &sound, &sound, 1, [5, 5]);
+        both(desk, other, &large, &sound, 1, [5; 3]);
+        both(desk, other, &sound, &sound, 1, [5; 3]);
     }
 }
 

@@ -1,8 +1,9 @@
 //! Document 01's values at the edges, the starred ones and the others; and the same at document 02's depths.
+use crate::block_edges;
 use crate::desk::{Desk, LENGTHS, put_state};
 use crate::detector_cases::accepted;
 use crate::list_cases::{satd_of, scale_of};
-use crate::measures_reading::Lent;
+use crate::measures_reading::{self as read, Lent};
 use crate::pair_edges;
 use crate::plane_cases::{intra_of, pair_of};
 use crate::random::Random;
@@ -14,6 +15,16 @@ use crate::state::State;
 
 pub fn flat<T: Sample>(width: u64, height: u64, value: u64) -> Lent<T> {
     Lent { samples: vec![T::of(value); (width * height) as usize], width, height, stride: width, origin: 0 }
+}
+
+/// Two planes, as measures of two and as a plane with its work plane; how many costs there is room for; what is due of the
+/// difference, of the importance and of the costs. The reading is asked all the same, so that a mutant of it makes a list, which
+/// is wrong here.
+pub fn both<T: Sample>(desk: &mut Desk, depth: u64, a: &Lent<T>, b: &Lent<T>, room: usize, due: [u32; 3]) {
+    let two = [read::difference_fault(depth, a, b), read::importance_fault(depth, a, b)];
+    desk.tally.due([two[0], two[1], read::intra_fault(depth, a, b, room)] == due);
+    pair_of(desk, depth, a, b);
+    intra_of(desk, depth, a, b, &vec![7; room]);
 }
 
 /// A block whose samples add up to `sum`.
@@ -38,8 +49,6 @@ pub fn measures<T: Sample>(desk: &mut Desk, depth: u64) {
     for sum in [31, 32] {
         pair(desk, flat(8, 8, 0), summing(sum));
     }
-    pair(desk, flat(15, 8, 1), flat(15, 8, 200));
-    pair(desk, flat(7, 8, 1), flat(7, 8, 200));
     pair(desk, flat(8192, 1, 0), flat(8192, 1, most));
     pair(desk, flat(8193, 1, 0), flat(8193, 1, most));
     let mut one = [T::of(middle); 64];
@@ -50,7 +59,7 @@ pub fn measures<T: Sample>(desk: &mut Desk, depth: u64) {
         intra_of(desk, depth, &plane, &flat(8, 8, 3), &[9, 9]);
     }
     intra_of::<T>(desk, depth, &flat(15, 17, 4), &flat(15, 17, 3), &[9, 9]);
-    intra_of::<T>(desk, depth, &flat(7, 8, 4), &flat(7, 8, 3), &[]);
+    block_edges::measures::<T>(desk, depth);
 }
 
 /// A difference that 32 bits do not hold.
@@ -128,4 +137,5 @@ pub fn all(desk: &mut Desk) {
     calls(desk);
     last_number(desk);
     pair_edges::all(desk);
+    block_edges::all(desk);
 }

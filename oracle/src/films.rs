@@ -64,7 +64,9 @@ impl<T: Sample> Film<T> {
         let depth = T::depth(r);
         let mode = r.of(&[0, 1, 1, 2, 2]);
         let large = mode == 1 && r.once_in(3);
-        let (width, height) = if large { (r.of(&[242, 250]), 241) } else { (r.from_to(1, 40), r.from_to(1, 40)) };
+        // Standard mode measures by blocks: there frames have one.
+        let least = if mode == 2 { 8 } else { 1 };
+        let (width, height) = if large { (r.of(&[242, 250]), 241) } else { (r.from_to(least, 40), r.from_to(least, 40)) };
         let count = if large { r.from_to(2, 12) } else { r.from_to(1, 60) };
         let ahead = if r.once_in(2) { r.from_to(4, 6) } else { r.from_to(1, SET_LIMIT + 1) };
         let (min, max) = (r.below(4), if r.once_in(2) { 4 + r.below(20) } else { u64::from(u32::MAX) });

@@ -7,9 +7,9 @@ use crate::edges;
 use crate::list_cases;
 use crate::log_cases;
 use crate::log_edges;
-use crate::measures_reading::{Lent, intra_fault};
+use crate::measures_reading::Lent;
 use crate::pair_cases;
-use crate::plane_cases::{differ, hurt_one, intra_of, or_odd, pair_of, shaped};
+use crate::plane_cases::{differ, hurt_one, intra_of, or_odd, or_raised, pair_of, shaped};
 use crate::random::Random;
 use crate::reading::{self, STANDARD};
 use crate::reduce_cases;
@@ -173,9 +173,7 @@ fn orders_of_measures(desk: &mut Desk) {
         (8, sound.clone(), plane(9, 71), 1, 2),
         (8, sound.clone(), plane(9, 72), 0, 3),
     ] {
-        desk.tally.due(intra_fault(depth, &a, &b, costs) == due);
-        pair_of(desk, depth, &a, &b);
-        intra_of(desk, depth, &a, &b, &vec![7; costs]);
+        edges::both(desk, depth, &a, &b, costs, [due; 3]);
     }
     list_cases::hadamard_of(desk, &[65_536; 15], 4);
 }
@@ -257,15 +255,21 @@ fn deep(desk: &mut Desk, r: &mut Random) {
     reductions::<u16>(desk, r, REDUCTIONS);
 }
 
+/// The sides of frames that come in strips. One time in six there is no block.
+fn strip_sides(r: &mut Random) -> (u64, u64) {
+    let sides = (r.from_to(5, 18), r.from_to(6, 20));
+    or_raised(r, sides)
+}
+
 /// Strips come last.
 fn strips<T: Sample>(desk: &mut Desk, r: &mut Random) {
     strips_edges::all::<T>(desk, r);
     for _ in 0..STRIP_FILMS {
-        let sides = (r.from_to(1, 18), r.from_to(1, 20));
+        let sides = strip_sides(r);
         strips_cases::film::<T>(desk, r, sides);
     }
     for _ in 0..STRIP_CALLS {
-        let sides = (r.from_to(1, 18), r.from_to(1, 20));
+        let sides = strip_sides(r);
         strips_calls::start(desk, r);
         strips_calls::add::<T>(desk, r, sides);
         strips_calls::end(desk, r, sides);

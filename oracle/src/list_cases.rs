@@ -116,9 +116,13 @@ pub fn threshold(desk: &mut Desk, r: &mut Random) {
     let costs: Vec<u32> = (0..r.below(40)).map(|_| r.below(most) as u32).collect();
     let have = costs.len() as u64;
     let count = if r.once_in(10) { have + r.of(&[1, 7, 1 << 32, 1 << 60]) } else { r.below(have + 1) };
-    let due = read::threshold(&costs, count);
+    threshold_of(desk, &costs, count);
+}
+
+pub fn threshold_of(desk: &mut Desk, costs: &[u32], count: u64) {
+    let due = read::threshold(costs, count);
     desk.tally.read_measures += u64::from(due.is_ok());
-    put_threshold(desk, &costs, count, due);
+    put_threshold(desk, costs, count, due);
 }
 
 pub fn scale(desk: &mut Desk, r: &mut Random) {

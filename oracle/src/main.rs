@@ -6,6 +6,7 @@
 //!   oracle decided SEED         compares what the command wrote, from the standard input, with what the crate finds
 //!   oracle film16, decided16    the same with a film of 10 or 12 bits
 mod attempt;
+mod block_edges;
 mod counted;
 mod damage;
 mod decide;

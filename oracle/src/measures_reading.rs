@@ -1,4 +1,5 @@
-//! Document 01's measures as a program, with document 02's deep camera: which refusal is due, and the measures in exact numbers.
+//! Document 01's measures as a program, with document 02's deep camera and its refusal of planes without a block: which refusal
+//! is due, and the measures in exact numbers.
 use crate::sample::Sample;
 
 /// A plane as it is lent.
@@ -17,6 +18,11 @@ pub fn suits<T>(depth: u64) -> bool {
         1 => depth == 8,
         _ => depth == 10 || depth == 12,
     }
+}
+
+/// 19: "a plane with no whole 8×8 block".
+pub fn lacks_block(width: u64, height: u64) -> bool {
+    width < 8 || height < 8
 }
 
 /// "128 times 2 to the power depth − 8".
@@ -72,16 +78,35 @@ fn shapes_fault<T: Sample>(depth: u64, a: &Lent<T>, b: &Lent<T>) -> u32 {
     }
 }
 
-pub fn planes_fault<T: Sample>(depth: u64, a: &Lent<T>, b: &Lent<T>) -> u32 {
+/// The same of what is measured by blocks: 19 is "tested after 3".
+fn blocks_fault<T: Sample>(depth: u64, a: &Lent<T>, b: &Lent<T>) -> u32 {
     match shapes_fault(depth, a, b) {
+        0 if lacks_block(a.width, a.height) => 19,
+        fault => fault,
+    }
+}
+
+/// 16 of either plane comes last.
+fn or_large<T: Sample>(fault: u32, depth: u64, a: &Lent<T>, b: &Lent<T>) -> u32 {
+    match fault {
         0 if a.exceeds(depth) || b.exceeds(depth) => 16,
         fault => fault,
     }
 }
 
-/// 16 comes after 4, "work plane aside".
+/// Of the plane difference and of delta, which planes without a block have too.
+pub fn difference_fault<T: Sample>(depth: u64, a: &Lent<T>, b: &Lent<T>) -> u32 {
+    or_large(shapes_fault(depth, a, b), depth, a, b)
+}
+
+/// Of the importance and of its total.
+pub fn importance_fault<T: Sample>(depth: u64, a: &Lent<T>, b: &Lent<T>) -> u32 {
+    or_large(blocks_fault(depth, a, b), depth, a, b)
+}
+
+/// 4 comes after 19, and 16 after 4, "work plane aside".
 pub fn intra_fault<T: Sample>(depth: u64, a: &Lent<T>, work: &Lent<T>, costs: usize) -> u32 {
-    match shapes_fault(depth, a, work) {
+    match blocks_fault(depth, a, work) {
         0 if (costs as u64) < a.blocks() => 4,
         0 if a.exceeds(depth) => 16,
         fault => fault,
@@ -207,7 +232,11 @@ pub fn intra<T: Sample>(depth: u64, a: &Lent<T>, work: &Lent<T>) -> (Vec<u32>, V
     (costs, after)
 }
 
+/// A count of 0 is that of a plane without a block, whatever the list is.
 pub fn threshold(costs: &[u32], count: u64) -> Result<f64, u32> {
+    if count == 0 {
+        return Err(19);
+    }
     if (costs.len() as u64) < count {
         return Err(4);
     }

@@ -16,7 +16,7 @@ const WITHOUT: (u64, u64) = (PAIRS as u64, SCORES as u64);
 const SETTINGS: [u64; 7] = [64, 64, 8, 0, STANDARD, 0, 1000];
 
 /// A state of a Standard detector after a call, with entries of these pair numbers. Behind them other numbers stand.
-fn state(lookahead: u64, [last, length, offset]: [u64; 3], pairs: &[u64]) -> State {
+pub fn state(lookahead: u64, [last, length, offset]: [u64; 3], pairs: &[u64]) -> State {
     let mut s = fresh(SETTINGS);
     s.numbers[3] = lookahead;
     (s.numbers[LAST], s.numbers[LENGTH]) = (last, length);
@@ -39,7 +39,7 @@ fn next(s: &State) -> (Film, Call) {
 }
 
 /// The reading is asked whether this is due, so that a mutant of it makes a list, which is wrong here.
-fn is_due(desk: &mut Desk, lengths: (u64, u64), s: &State, (film, c): (Film, Call), due: u32) {
+pub fn is_due(desk: &mut Desk, lengths: (u64, u64), s: &State, (film, c): (Film, Call), due: u32) {
     let fault = reading::step_fault(lengths, s, &c);
     desk.tally.due(fault == due);
     put_state(desk, s);

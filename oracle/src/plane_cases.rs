@@ -19,12 +19,24 @@ use crate::values::same;
 
 type Scenes<T> = scenes::SceneChangeDetector<T>;
 
-pub fn side(r: &mut Random) -> u64 {
+fn side(r: &mut Random) -> u64 {
     match r.below(12) {
         0..=7 => r.from_to(1, 26),
         8..=10 => r.from_to(1, 9) * 8 - 1 + r.below(3),
         _ => r.from_to(1, 200),
     }
+}
+
+/// Every second time a side below 8 is raised, so that there is a block.
+pub fn or_raised(r: &mut Random, sides: (u64, u64)) -> (u64, u64) {
+    let raised = |side: u64| if side < 8 { side + 8 } else { side };
+    if r.once_in(2) { (raised(sides.0), raised(sides.1)) } else { sides }
+}
+
+/// One time in six there is no block.
+pub fn sides(r: &mut Random) -> (u64, u64) {
+    let sides = (side(r), side(r));
+    or_raised(r, sides)
 }
 
 /// The value of each sample of a picture, by one of several tastes.
@@ -100,7 +112,7 @@ pub fn put<T: Sample>(out: &mut Stream, l: &Lent<T>) {
 /// Plane difference, importance total, delta and importance of two planes.
 pub fn pair<T: Sample>(desk: &mut Desk, r: &mut Random) {
     let depth = T::depth(r);
-    let (width, height) = (side(r), side(r));
+    let (width, height) = sides(r);
     let (mut a, mut b) = (lent(r, depth, width, height), lent(r, depth, width, height));
     if r.once_in(4) {
         b.samples = a.samples.clone();
@@ -121,18 +133,24 @@ pub fn differ<T: Sample>(r: &mut Random, depth: u64, samples: &mut [T]) {
     samples[at] = T::of(samples[at].number() ^ 1 << r.below(depth));
 }
 
+/// Without a block planes have a difference and a delta, but no importance.
 pub fn pair_of<T: Sample>(desk: &mut Desk, depth: u64, a: &Lent<T>, b: &Lent<T>) {
-    let fault = read::planes_fault(depth, a, b);
-    let mut answers = [-i64::from(fault); 4];
+    let (plain, by_blocks) = (read::difference_fault(depth, a, b), read::importance_fault(depth, a, b));
+    let mut answers = [plain, by_blocks, plain, by_blocks].map(|fault| -i64::from(fault));
     let mut reals = [0.0; 2];
-    if fault == 0 {
+    if plain == 0 {
         let (difference, delta) = crate_difference(desk, depth, a, b);
-        let (total, importance) = crate_importance(desk, depth, a, b);
-        answers = [difference as i64, total as i64, 0, 0];
-        reals = [delta, importance];
-        desk.tally.measures += 3;
+        (answers[0], reals[0]) = (difference as i64, delta);
+        desk.tally.measures += 1;
     } else {
-        desk.tally.refusal(fault, stops(fault, a, b));
+        desk.tally.refusal(plain, stops(plain, depth, a, b));
+    }
+    if by_blocks == 0 {
+        let (total, importance) = crate_importance(desk, depth, a, b);
+        (answers[1], reals[1]) = (total as i64, importance);
+        desk.tally.measures += 2;
+    } else if by_blocks != plain {
+        desk.tally.refusal(by_blocks, stops(by_blocks, depth, a, b));
     }
     desk.out.word(depth);
     put(desk.out, a);
@@ -140,13 +158,13 @@ pub fn pair_of<T: Sample>(desk: &mut Desk, depth: u64, a: &Lent<T>, b: &Lent<T>)
     desk.out.words(&answers.map(|x| x as u64)).real(reals[0]).real(reals[1]).end(T::KINDS.planes);
 }
 
-/// Whether the crate stops on two planes of different sizes.
-fn stops<T: Sample>(fault: u32, a: &Lent<T>, b: &Lent<T>) -> Ran {
-    if fault != 3 {
-        return Ran::NotAsked;
+/// Whether the crate stops on two planes of different sizes, or without a block.
+fn stops<T: Sample>(fault: u32, depth: u64, a: &Lent<T>, b: &Lent<T>) -> Ran {
+    match fault {
+        3 => ran(|| Scenes::<T>::door_difference(&plane(a), &plane(b))),
+        19 => ran(|| estimate_importance_block_difference(&frame(b, depth), &frame(a, depth))),
+        _ => Ran::NotAsked,
     }
-    let (a, b) = (plane(a), plane(b));
-    ran(|| Scenes::<T>::door_difference(&a, &b))
 }
 
 /// Delta comes from a Fast detector of the planes' own size, as long as it does not reduce them.
@@ -174,7 +192,7 @@ fn crate_difference<T: Sample>(desk: &mut Desk, depth: u64, a: &Lent<T>, b: &Len
 /// The crate gives the quotient alone; the total is the whole number that has it.
 pub fn crate_importance<T: Sample>(desk: &mut Desk, depth: u64, a: &Lent<T>, b: &Lent<T>) -> (u64, f64) {
     let importance = estimate_importance_block_difference(&frame(b, depth), &frame(a, depth));
-    let total = if a.blocks() == 0 { 0 } else { (importance * a.blocks() as f64).round() as u64 };
+    let total = (importance * a.blocks() as f64).round() as u64;
     if !same(read::quotient(total, a.blocks()), importance) || total != read::importance_total(a, b) {
         desk.tally.differs("an importance");
     }
@@ -184,7 +202,7 @@ pub fn crate_importance<T: Sample>(desk: &mut Desk, depth: u64, a: &Lent<T>, b: 
 /// Intra costs of a plane over a work plane, and the threshold from them.
 pub fn intra<T: Sample>(desk: &mut Desk, r: &mut Random) {
     let depth = T::depth(r);
-    let (width, height) = (side(r), side(r));
+    let (width, height) = sides(r);
     let (mut a, mut work) = (lent(r, depth, width, height), lent(r, depth, width, height));
     deep_cases::exceed_first(r, depth, &mut a, &mut work);
     while r.once_in(8) {
@@ -219,8 +237,8 @@ pub fn intra_of<T: Sample>(desk: &mut Desk, depth: u64, a: &Lent<T>, work: &Lent
         crate_threshold(desk, within::<T>(depth), a, &theirs);
     } else {
         let sound = T::DEPTHS.iter().any(|&other| read::intra_fault(other, a, work, room.len()) == 0);
-        let known = fault == 5 && within::<T>(depth) == depth && sound;
-        let asked = || ran(|| estimate_intra_costs(&mut plane(work), &frame(a, 8), depth as usize));
+        let known = fault == 19 || (fault == 5 && within::<T>(depth) == depth && sound);
+        let asked = || ran(|| estimate_intra_costs(&mut plane(work), &frame(a, 8), within::<T>(depth) as usize));
         desk.tally.refusal(fault, if known { asked() } else { Ran::NotAsked });
     }
     desk.out.word(depth);

@@ -1,5 +1,6 @@
-//! Document 01's detector as a program, in its own order and words, with document 02's release number, depths and pair
-//! numbers. It says which refusal is due, and what the crate's answer should be; where the two differ the oracle says so.
+//! Document 01's detector as a program, in its own order and words, with document 02's release number, depths, pair
+//! numbers and refusal of NaNs. It says which refusal is due, and what the crate's answer should be; where the two differ the
+//! oracle says so.
 use crate::sizes::{COUNT, FIRST, LAST, LENGTH, NUMBERS, OFFSET, PAIRS, RELEASE, ROOM, SCORES, SET_LIMIT};
 use crate::state::{Call, Entry, State};
 
@@ -57,15 +58,12 @@ pub fn scale_factor(width: u64, height: u64, mode: u64) -> i64 {
     }
 }
 
-fn bad_inter(x: f64) -> bool {
+/// What 10 forbids: "NaN, infinite or below 0". Document 02's L7: "10 now covers NaN everywhere in a read list".
+fn is_forbidden(x: f64) -> bool {
     x.is_nan() || x.is_infinite() || x < 0.0
 }
 
-fn bad_other(x: f64) -> bool {
-    x.is_infinite() || x < 0.0
-}
-
-/// Refusal 11.
+/// Refusal 11. Of an entry 10 is asked for the inter cost alone: older states hold NaNs in the other four.
 fn state_fault(s: &State) -> bool {
     let n = &s.numbers;
     if settings_fault_6(n[0], n[1], n[4]) || !DEPTHS.contains(&n[2]) {
@@ -78,7 +76,7 @@ fn state_fault(s: &State) -> bool {
     if n[COUNT] == 0 {
         return n[OFFSET] != s.ahead();
     }
-    n[OFFSET] >= n[COUNT] || s.entries().iter().any(|e| bad_inter(e.score[0])) || entries_fault(s)
+    n[OFFSET] >= n[COUNT] || s.entries().iter().any(|e| is_forbidden(e.score[0])) || entries_fault(s)
 }
 
 /// What document 02's L5 adds to 11, for a state with entries, in its order and words. Sums are exact numbers.
@@ -111,15 +109,11 @@ fn number_fault(s: &State, c: &Call) -> bool {
     c.frame == 0 || c.frame >= 1 << 32 || c.previous > c.frame || (before && c.frame - 1 != s.numbers[LAST])
 }
 
-/// Refusal 10.
+/// Refusal 10. Standard mode reads all three lists, Fast the inter costs, None none.
 fn list_fault(mode: u64, c: &Call) -> bool {
     let due = c.set.saturating_sub(1);
-    let wrong = |list: &Vec<f64>| list.len() as u64 != due;
-    (mode != NONE && (wrong(&c.inter) || c.inter.iter().any(|&x| bad_inter(x))))
-        || (mode == STANDARD
-            && (wrong(&c.importance)
-                || wrong(&c.threshold)
-                || c.importance.iter().chain(&c.threshold).any(|&x| bad_other(x))))
+    let bad = |list: &[f64]| list.len() as u64 != due || list.iter().any(|&x| is_forbidden(x));
+    (mode != NONE && bad(&c.inter)) || (mode == STANDARD && (bad(&c.importance) || bad(&c.threshold)))
 }
 
 /// The refusal that is due, or 0. The lengths are those of the two places of the state.

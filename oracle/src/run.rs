@@ -109,7 +109,7 @@ impl Film {
         // A list that is not read may be anything.
         if mode != STANDARD && r.once_in(2) {
             c.importance = vec![f64::NEG_INFINITY; r.below(4) as usize];
-            c.threshold = vec![-1.0; r.below(20) as usize];
+            c.threshold = vec![f64::NAN; r.below(20) as usize];
         }
         if mode == NONE && r.once_in(2) {
             c.inter = vec![f64::NAN; r.below(20) as usize];

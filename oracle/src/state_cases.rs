@@ -7,7 +7,7 @@ use crate::random::Random;
 use crate::reading::NONE;
 use crate::sizes::{OFFSET, PAIRS, ROOM, SCORE, SCORES, SET_LIMIT};
 use crate::state::State;
-use crate::values::{Taste, any_real};
+use crate::values::{Taste, any_real, or_nan};
 
 /// What may stand in the places of a state before one is made there.
 pub fn blank(r: &mut Random) -> State {
@@ -19,16 +19,16 @@ pub fn most_entries(s: &State) -> u64 {
     if s.ahead() == 5 { 10 } else { ROOM as u64 - 1 }
 }
 
-/// Entries whose inter costs 10 lets in; of some of them nothing else is odd either.
+/// Entries whose inter costs 10 lets in; of some of them nothing else is odd either, but for a NaN here and there.
 fn put_costs(r: &mut Random, s: &mut State) {
     let (taste, count, depth) = (Taste::new(r), s.count(), s.numbers[2]);
     for place in s.places.chunks_mut(SCORE).take(count) {
         place[0] = taste.inter(r);
         if r.once_in(2) {
-            place[1] = taste.importance(r, depth);
-            place[2] = taste.inter(r);
-            place[3] = taste.inter(r);
-            place[4] = taste.threshold(r);
+            place[1] = or_nan(taste.importance(r, depth), r);
+            place[2] = or_nan(taste.inter(r), r);
+            place[3] = or_nan(taste.inter(r), r);
+            place[4] = or_nan(taste.threshold(r), r);
         }
     }
 }

@@ -12,8 +12,11 @@ use crate::strips_reading::{DEPTH, DIFFERENCE, HEIGHT, HELD, ROWS, STRIP, TOTAL,
 /// Depths that are none, and the three: which of these suits is the word's matter.
 const DEPTHS: [u64; 12] = [0, 7, 8, 8, 9, 10, 10, 11, 12, 12, 16, u64::MAX];
 const SIDES: [u64; 4] = [0, 8193, 1 << 32, u64::MAX];
-/// How many refusals an add has, one behind the other.
-const ORDER: u64 = 10;
+/// How many refusals an add has, one behind the other, and the place of 19 among them; the same of an end.
+const ADD: u64 = 11;
+const ADD_SMALL: u64 = 8;
+const END: u64 = 4;
+const END_SMALL: u64 = 2;
 
 /// A total of so many samples, at most as large as at one of the depths: at its edge, or anywhere below.
 fn total(r: &mut Random, depth: u64, samples: u64) -> u64 {
@@ -144,7 +147,9 @@ fn hurt<T: Sample>(r: &mut Random, at: u64, c: &mut Call<T>) {
         5 => misshape(r, &mut c.b),
         6 => shorten(r, &mut c.b),
         7 => differ(r, c),
-        8 => lack(r, c),
+        // The call was made of such sides.
+        ADD_SMALL => (),
+        9 => lack(r, c),
         _ if T::IS_DEEP && c.a.height != 0 => exceed(r, depth, if first { &mut c.a } else { &mut c.b }),
         _ => (),
     }
@@ -163,9 +168,17 @@ fn hurts(r: &mut Random, order: u64) -> Vec<u64> {
     hurts
 }
 
+/// Where 19 is to apply, one of the sides is below 8: the call that is made of them is sound but for that.
+fn or_small(r: &mut Random, (width, height): (u64, u64), is_small: bool) -> (u64, u64) {
+    let side = r.from_to(1, 7);
+    if is_small { r.of(&[(side, height), (width, side)]) } else { (width, height) }
+}
+
 pub fn add<T: Sample>(desk: &mut Desk, r: &mut Random, sides: (u64, u64)) {
+    let hurts = hurts(r, ADD);
+    let sides = or_small(r, sides, hurts.contains(&ADD_SMALL));
     let mut c = call::<T>(r, sides);
-    for at in hurts(r, ORDER) {
+    for at in hurts {
         hurt(r, at, &mut c);
     }
     add_of(desk, &c.kept, &c.a, &c.b);
@@ -187,15 +200,17 @@ pub fn start(desk: &mut Desk, r: &mut Random) {
     start_of(desk, depth, width, height, &mut carry);
 }
 
-/// 11, 5, 18.
+/// 11, 5, 19, 18.
 pub fn end(desk: &mut Desk, r: &mut Random, sides: (u64, u64)) {
-    let depth = r.of(&[8, 10, 12]);
+    let (depth, hurts) = (r.of(&[8, 10, 12]), hurts(r, END));
+    let sides = or_small(r, sides, hurts.contains(&END_SMALL));
     let mut carry = carry(r, depth, sides);
     carry[ROWS] = carry[HEIGHT];
-    for at in hurts(r, 3) {
+    for at in hurts {
         match at {
             0 => hurt_carry(r, &mut carry),
             1 => carry[DEPTH] = r.of(&DEPTHS),
+            END_SMALL => (),
             _ => carry[ROWS] -= r.from_to(1, carry[HEIGHT]),
         }
     }

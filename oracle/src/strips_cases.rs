@@ -1,10 +1,10 @@
 //! Two frames that come in strips, cut at any places: each call beside the reading, and the end of a film beside the crate's
-//! measures of the whole planes.
+//! measures of the whole planes. Without a block a film is refused, and the crate is not asked.
 use scenes::_bench_internals::estimate_intra_costs;
 
 use crate::desk::Desk;
-use crate::measures_reading::Lent;
-use crate::plane_cases::{crate_importance, differ, frame, lent, plane, put, shaped, side, within};
+use crate::measures_reading::{Lent, lacks_block};
+use crate::plane_cases::{self, crate_importance, differ, frame, lent, plane, put, shaped, within};
 use crate::random::Random;
 use crate::sample::Sample;
 use crate::sizes::CARRY;
@@ -130,18 +130,29 @@ fn whole<T: Sample>(desk: &mut Desk, depth: u64, a: &Lent<T>, b: &Lent<T>) -> ([
     ([b.blocks(), difference, total], costs)
 }
 
-/// Both planes come in strips of so many rows, from the start to the end. Each strip has a stride, an origin and a memory of its
-/// own.
-pub fn film_of<T: Sample>(desk: &mut Desk, r: &mut Random, depth: u64, a: &Lent<T>, b: &Lent<T>, cuts: &[u64]) {
-    let (measures, costs) = whole(desk, depth, a, b);
+/// Both planes come in strips of so many rows; what is kept then. Each strip has a stride, an origin and a memory of its own.
+fn come<T: Sample>(desk: &mut Desk, r: &mut Random, depth: u64, planes: [&Lent<T>; 2], cuts: &[u64], costs: &[u32]) -> Kept<T> {
+    let (width, height) = (planes[0].width, planes[0].height);
     let mut carry: Vec<u64> = (0..CARRY).map(|_| r.word()).collect();
-    start_of(desk, depth, a.width, a.height, &mut carry);
-    let (mut kept, mut come) = (kept(r, carry, a.width, a.height), 0);
+    start_of(desk, depth, width, height, &mut carry);
+    let (mut kept, mut come) = (kept(r, carry, width, height), 0);
     for &rows in cuts {
-        let (first, second) = (strip(r, a, come, rows), strip(r, b, come, rows));
-        kept = add_known(desk, &kept, &first, &second, &costs);
+        let [first, second] = planes.map(|plane| strip(r, plane, come, rows));
+        kept = add_known(desk, &kept, &first, &second, costs);
         come += rows;
     }
+    kept
+}
+
+/// Both planes in strips, from the start to the end. Without a block each strip is refused, so that no row has come, and the end.
+pub fn film_of<T: Sample>(desk: &mut Desk, r: &mut Random, depth: u64, a: &Lent<T>, b: &Lent<T>, cuts: &[u64]) {
+    if lacks_block(a.width, a.height) {
+        let kept = come(desk, r, depth, [a, b], cuts, &[]);
+        desk.tally.due(kept.carry[ROWS] == 0 && read::end(&kept.carry) == Err(19));
+        return end_of(desk, &kept.carry);
+    }
+    let (measures, costs) = whole(desk, depth, a, b);
+    let kept = come(desk, r, depth, [a, b], cuts, &costs);
     if read::end(&kept.carry) != Ok(measures) {
         desk.tally.differs("two planes in strips");
     }
@@ -152,7 +163,8 @@ pub fn film_of<T: Sample>(desk: &mut Desk, r: &mut Random, depth: u64, a: &Lent<
 
 /// The sides of frames. One in six has many rows of blocks.
 pub fn sides(r: &mut Random) -> (u64, u64) {
-    (side(r), if r.once_in(6) { r.from_to(56, 200) } else { side(r) })
+    let (width, height) = plane_cases::sides(r);
+    (width, if r.once_in(6) { r.from_to(56, 200) } else { height })
 }
 
 pub fn film<T: Sample>(desk: &mut Desk, r: &mut Random, (width, height): (u64, u64)) {

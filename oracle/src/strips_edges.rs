@@ -1,5 +1,5 @@
 //! Strips at the edges, whatever the seed draws: each refusal by itself, each with each that is tested behind it, of which the first
-//! is due, and rooms that hold what is no sample.
+//! is due, frames without a block, and rooms that hold what is no sample.
 use crate::deep_cases::LARGEST;
 use crate::desk::Desk;
 use crate::edges::flat;
@@ -14,6 +14,8 @@ use crate::strips_reading::{self as read, DEPTH, DIFFERENCE, HEIGHT, Kept, ROWS,
 const WIDE: u64 = 17;
 const HIGH: u64 = 20;
 const BLOCKS: usize = 4;
+/// A side that has no block.
+const SMALL: u64 = 7;
 /// Five rows have come, and three are to come: with them a row of blocks is whole.
 const COME: u64 = 5;
 const NEXT: u64 = 3;
@@ -46,18 +48,27 @@ fn all_rows<T>(c: &mut Call<T>) {
     c.kept.carry[ROWS] = HIGH;
 }
 
-/// One change for each refusal, in their order: 11, 17, 5, 1 and 2 of the first, 1 and 2 of the second, 3, 4. 16 is behind them.
-fn changes<T: Sample>() -> [(u32, Change<T>); 9] {
+/// Frames and strips have fewer columns, by as many each, so that there is no block.
+fn narrow<T>(c: &mut Call<T>) {
+    for width in [&mut c.kept.carry[WIDTH], &mut c.a.width, &mut c.b.width] {
+        *width -= WIDE - SMALL;
+    }
+}
+
+/// One change for each refusal, in their order: 11, 17, 5, 1 and 2 of the first, 1 and 2 of the second, 3, 19, 4. 16 is behind them.
+/// Each holds for narrow frames too.
+fn changes<T: Sample>() -> [(u32, Change<T>); 10] {
     [
-        (11, |c| c.kept.carry[WIDTH] = 8193),
+        (11, |c| c.kept.carry[HEIGHT] = 8193),
         (17, |c| c.kept.carry[ROWS] = HIGH - NEXT + 1),
         (5, |c| c.kept.carry[DEPTH] = 9),
-        (1, |c| c.a.stride = WIDE - 2),
+        (1, |c| c.a.stride = SMALL - 2),
         (2, |c| c.a.samples.truncate(9)),
-        (1, |c| c.b.stride = WIDE - 2),
+        (1, |c| c.b.stride = SMALL - 2),
         (2, |c| c.b.samples.truncate(9)),
         (3, |c| (c.a.width, c.b.width) = (WIDE - 1, WIDE - 1)),
-        (4, |c| c.kept.costs.truncate(BLOCKS - 1)),
+        (19, narrow),
+        (4, |c| c.kept.room.truncate(16 * SMALL as usize - 1)),
     ]
 }
 
@@ -65,6 +76,7 @@ fn changes<T: Sample>() -> [(u32, Change<T>); 9] {
 fn orders<T: Sample>(desk: &mut Desk, depth: u64) {
     let changes = changes::<T>();
     let large: Change<T> = |c| c.b.samples[WIDE as usize - 1] = T::of(1 << c.kept.carry[DEPTH]);
+    let front: Change<T> = |c| c.b.samples[0] = T::of(1 << c.kept.carry[DEPTH]);
     for (at, &(due, change)) in changes.iter().enumerate() {
         add(desk, depth, &[change], due);
         for &(_, next) in &changes[at + 1..] {
@@ -74,7 +86,8 @@ fn orders<T: Sample>(desk: &mut Desk, depth: u64) {
     if T::IS_DEEP {
         add(desk, depth, &[large], 16);
         add(desk, depth, &[large, changes[7].1], 3);
-        add(desk, depth, &[large, changes[8].1], 4);
+        add(desk, depth, &[front, changes[8].1], 19);
+        add(desk, depth, &[large, changes[9].1], 4);
     }
 }
 
@@ -84,7 +97,7 @@ fn carries<T: Sample>(desk: &mut Desk, depth: u64) {
         |c| c.kept.carry.truncate(CARRY - 1),
         |c| c.kept.carry.push(0),
         |c| c.kept.carry[WIDTH] = 0,
-        |c| c.kept.carry[HEIGHT] = 8193,
+        |c| c.kept.carry[WIDTH] = 8193,
         |c| c.kept.carry[ROWS] = HIGH + 1,
         |c| c.kept.carry[DIFFERENCE] = COME * WIDE * most(c.kept.carry[DEPTH]) + 1,
         |c| c.kept.carry[TOTAL] = COME * WIDE * most(c.kept.carry[DEPTH]) + 1,
@@ -114,15 +127,20 @@ fn rows<T: Sample>(desk: &mut Desk, depth: u64) {
     add::<T>(desk, depth, &[bare, |c| c.b.stride = WIDE - 1], 1);
     add::<T>(desk, depth, &[bare, |c| c.b.width = WIDE - 1], 3);
     add::<T>(desk, depth, &[|c| c.b.height = 0], 3);
-    add::<T>(desk, depth, &[bare, |c| c.kept.costs.truncate(BLOCKS - 1)], 4);
-    add::<T>(desk, depth, &[bare, |c| c.kept.room.truncate(16 * WIDE as usize - 1)], 4);
-    add::<T>(desk, depth, &[|c| c.kept.room.truncate(16 * WIDE as usize - 1)], 4);
+    add::<T>(desk, depth, &[bare, narrow], 19);
+    add::<T>(desk, depth, &[bare, |c| c.kept.carry[HEIGHT] = SMALL], 19);
+    add::<T>(desk, depth, &[bare, narrow, |c| c.kept.room.clear()], 19);
+    let lacks: [Change<T>; 2] = [|c| c.kept.costs.truncate(BLOCKS - 1), |c| c.kept.room.truncate(16 * WIDE as usize - 1)];
+    for lack in lacks {
+        add(desk, depth, &[lack], 4);
+        add(desk, depth, &[bare, lack], 4);
+    }
     add::<T>(desk, depth, &[|c| c.b.height = u64::MAX], 17);
     add::<T>(desk, depth, &[|c| c.a.height = u64::MAX - COME + 1], 17);
     for (height, due) in [(64, 0), (65, 17)] {
-        let (mut c, long) = (sound::<T>(depth), flat(1, height, 7));
-        (c.a, c.b, c.kept.costs) = (long.clone(), long, vec![]);
-        (c.kept.carry[WIDTH], c.kept.carry[HEIGHT], c.kept.carry[DIFFERENCE]) = (1, 200, 0);
+        let (mut c, long) = (sound::<T>(depth), flat(8, height, 7));
+        (c.a, c.b, c.kept.costs) = (long.clone(), long, vec![9; 25]);
+        (c.kept.carry[WIDTH], c.kept.carry[HEIGHT], c.kept.carry[DIFFERENCE]) = (8, 200, 0);
         desk.tally.due(fault(&read::add_order(&c.kept, &c.a, &c.b)) == due);
         add_of(desk, &c.kept, &c.a, &c.b);
     }
@@ -149,7 +167,7 @@ fn rooms(desk: &mut Desk, depth: u64) {
     }
 }
 
-/// 11, 5, 1; and the sides at their edges.
+/// 11, 5, 1; and the sides at their edges. A start does not look for a block.
 fn starts(desk: &mut Desk, depth: u64) {
     for (len, depth, width, height, due) in [
         (CARRY, depth, 1, 8192, 0),
@@ -166,7 +184,7 @@ fn starts(desk: &mut Desk, depth: u64) {
     }
 }
 
-/// 11, 5, 18; and the totals at their edges.
+/// 11, 5, 19, 18; and the totals at their edges.
 fn ends(desk: &mut Desk, depth: u64) {
     let edge = WIDE * HIGH * most(depth);
     let carry = |depth: u64, rows: u64, difference: u64, total: u64| vec![WIDE, HIGH, depth, rows, difference, total];
@@ -181,6 +199,12 @@ fn ends(desk: &mut Desk, depth: u64) {
         (carry(9, 0, 0, 0), 5),
         (carry(depth, HIGH - 1, 0, 0), 18),
         (carry(depth, 0, 0, 0), 18),
+        (vec![SMALL, HIGH, depth, HIGH + 1, 0, 0], 11),
+        (vec![SMALL, HIGH, 9, HIGH, 0, 0], 5),
+        (vec![SMALL, HIGH, depth, HIGH, 0, 0], 19),
+        (vec![WIDE, SMALL, depth, SMALL, 0, 0], 19),
+        (vec![SMALL, HIGH, depth, HIGH - 1, 0, 0], 19),
+        (vec![SMALL + 1, SMALL + 1, depth, SMALL + 1, 0, 0], 0),
         (vec![8193, HIGH, depth, HIGH, 0, 0], 11),
         (vec![WIDE, HIGH, depth, HIGH, 0], 11),
         (vec![WIDE, HIGH, depth, HIGH, 0, 0, 0], 11),
@@ -190,15 +214,18 @@ fn ends(desk: &mut Desk, depth: u64) {
     }
 }
 
-/// A film with samples that say where they stand, cut in several ways.
+/// A film with samples that say where they stand, cut in several ways; and films without a block.
 fn films<T: Sample>(desk: &mut Desk, r: &mut Random, depth: u64) {
-    let plane = |times: u64| Lent {
-        samples: (0..WIDE * HIGH).map(|i| T::of(i * times & most(depth))).collect(),
-        ..flat(WIDE, HIGH, 0)
+    let plane = |width: u64, height: u64, times: u64| Lent {
+        samples: (0..width * height).map(|i| T::of(i * times & most(depth))).collect(),
+        ..flat(width, height, 0)
     };
-    let (a, b) = (plane(7), plane(11));
+    let (a, b) = (plane(WIDE, HIGH, 7), plane(WIDE, HIGH, 11));
     for cuts in [&[20][..], &[8, 8, 4], &[5, 5, 5, 5], &[7, 1, 0, 9, 3], &[0, 15, 1, 4, 0], &[1; 20]] {
         film_of(desk, r, depth, &a, &b, cuts);
+    }
+    for (width, height) in [(SMALL, HIGH), (WIDE, SMALL), (SMALL, SMALL)] {
+        film_of(desk, r, depth, &plane(width, height, 7), &plane(width, height, 11), &[0, 5, height - 5]);
     }
 }
 

@@ -1,6 +1,6 @@
-//! Document 02's request L6 as a program: two frames that come a few rows at a time. What is refused, and what stands in the carry,
-//! in the room and among the costs after a call.
-use crate::measures_reading::{self as read, Lent, suits};
+//! Document 02's request L6 as a program, and L7's part of it: two frames that come a few rows at a time. What is refused, and what
+//! stands in the carry, in the room and among the costs after a call.
+use crate::measures_reading::{self as read, Lent, lacks_block, suits};
 use crate::sample::{Sample, most};
 use crate::sizes::CARRY;
 
@@ -87,7 +87,7 @@ fn lacks_room<T>(kept: &Kept<T>) -> bool {
     (kept.costs.len() as u128) < (width / 8) * (height / 8) || (kept.room.len() as u128) < 2 * u128::from(HELD) * width
 }
 
-/// Of a carry of another length nothing more is said.
+/// 19 is about the whole frames: "strips included, at any strip or end". Of a carry of another length nothing more is said.
 pub fn add_order<T: Sample>(kept: &Kept<T>, a: &Lent<T>, b: &Lent<T>) -> Order {
     let &[width, height, depth, rows, _, _] = &kept.carry[..] else { return vec![(11, true)] };
     let none = is_none(&kept.carry, largest(&kept.carry));
@@ -95,9 +95,10 @@ pub fn add_order<T: Sample>(kept: &Kept<T>, a: &Lent<T>, b: &Lent<T>) -> Order {
     let odd = !suits::<T>(depth);
     let [(a1, a2), (b1, b2)] = [a, b].map(|strip| (is_misshaped(strip), is_short(strip)));
     let differ = (a.width, a.height) != (b.width, b.height) || a.width != width;
+    let small = lacks_block(width, height);
     let lacking = lacks_room(kept);
     let large = !(odd || a1 || a2 || b1 || b2) && (a.exceeds(depth) || b.exceeds(depth));
-    vec![(11, none), (17, many), (5, odd), (1, a1), (2, a2), (1, b1), (2, b2), (3, differ), (4, lacking), (16, large)]
+    vec![(11, none), (17, many), (5, odd), (1, a1), (2, a2), (1, b1), (2, b2), (3, differ), (19, small), (4, lacking), (16, large)]
 }
 
 /// How many rows have come.
@@ -145,9 +146,9 @@ fn finish<T: Sample>(kept: &mut Kept<T>, row: u64) {
 }
 
 pub fn end_order(carry: &[u64]) -> Order {
-    let &[_, height, _, rows, _, _] = carry else { return vec![(11, true)] };
+    let &[width, height, _, rows, _, _] = carry else { return vec![(11, true)] };
     let none = is_none(carry, largest(carry));
-    vec![(11, none), (5, largest(carry).is_none()), (18, rows < height)]
+    vec![(11, none), (5, largest(carry).is_none()), (19, lacks_block(width, height)), (18, rows < height)]
 }
 
 /// How many whole blocks there are, the difference and the importance total.

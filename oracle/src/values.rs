@@ -26,10 +26,10 @@ impl Taste {
         }
     }
 
-    /// A threshold: a NaN, or finite and not below 0.
+    /// A threshold: finite and not below 0, as an importance is.
     pub fn threshold(self, r: &mut Random) -> f64 {
         if r.once_in(8) {
-            return r.of(&[f64::NAN, f64::NAN, 0.0, -0.0, TINY, f64::MAX]);
+            return r.of(&[0.0, -0.0, TINY, f64::MAX]);
         }
         match self.0 {
             6 => r.of(&[10.0, 100.0, 5.0]),
@@ -42,7 +42,7 @@ impl Taste {
         match r.below(5) {
             0 | 1 => r.of(&[edge, edge.next_up(), 50.0]),
             2 => r.of(&[edge.next_down(), 0.0, -0.0, 6.0, TINY]),
-            3 => r.of(&[f64::NAN, f64::MAX, edge]),
+            3 => r.of(&[f64::MAX, edge]),
             _ => r.part() * 2.0 * edge,
         }
     }
@@ -72,14 +72,14 @@ pub fn any_real(r: &mut Random) -> f64 {
     }
 }
 
-/// A cost that refusal 10 forbids.
-pub fn bad_inter(r: &mut Random) -> f64 {
+/// What refusal 10 forbids, in each list alike.
+pub fn forbidden(r: &mut Random) -> f64 {
     r.of(&[f64::NAN, f64::INFINITY, f64::NEG_INFINITY, -1.0, -TINY, -f64::MAX])
 }
 
-/// An importance or a threshold that refusal 10 forbids.
-pub fn bad_other(r: &mut Random) -> f64 {
-    r.of(&[f64::INFINITY, f64::NEG_INFINITY, -1.0, -TINY, -f64::MAX])
+/// A number, or one time in eight a NaN: a state from before NaNs were refused in every list may hold it.
+pub fn or_nan(x: f64, r: &mut Random) -> f64 {
+    if r.once_in(8) { f64::NAN } else { x }
 }
 
 pub fn same(a: f64, b: f64) -> bool {
