@@ -20,7 +20,8 @@ use Rattle.plane.specs.Blocks.{blockSide, blocksAcross, blocksDown, blockCount,
 use Rattle.plane.specs.Needs.{blockStart}
 use Rattle.plane.specs.Planes.{Word, byte, deep, suits, maxSide, wordFault, planeFault, sizesFault, sampleFault, tooLarge}
 use Rattle.plane.specs.declared.Plane.{Plane}
-use Rattle.plane.proofs.BlockLaws.{block-in, block-place, count-most, row-starts, by-blocks, blocks-alone}
+use Rattle.plane.proofs.BlockLaws.{block-in, block-place, row-starts, by-blocks, blocks-alone}
+use Rattle.plane.proofs.BlockLaws as blocks
 use Rattle.plane.proofs.PlaneLaws.{Pair, pair, row-in}
 use Rattle.plane.proofs.SampleLaws.{suited, by-shapes, bytes-pass, sample-fault-is}
 use Rattle.satd.specs.Satd.{blockSize, satdOf}
@@ -180,7 +181,7 @@ module _ (word : Word) (depth : ℕ) (p : Plane) (s : List ℕ) (w : Plane) (wor
   room-enough e h r d = or-later r _ _ (or-later 0 _ _ e (test-passed 4 _ (le-ltb room (blockCount p) h))) d
 
   -- planes that pass have one size, and a depth that suits
-  pub planes-pass : by-planes ≡ 0 → (wordFault word depth ≡ 0) × (sizesFault p (length s) w (length work) ≡ 0)
+  planes-pass : by-planes ≡ 0 → (wordFault word depth ≡ 0) × (sizesFault p (length s) w (length work) ≡ 0)
   planes-pass e = by-shapes word depth p (length s) w (length work) (by-blocks word depth p (length s) w (length work) e .0)
 
   pub samples-decide : 0 ≡ by-planes → blockCount p ≤ room → (r : ℕ) → r ≡ sampleFault word depth p s → r ≡ intraFault word depth p s w work room
@@ -208,7 +209,7 @@ module _ (word : Word) (depth : ℕ) (p : Plane) (s : List ℕ) (w : Plane) (wor
   has-block e = by-blocks word depth p (length s) w (length work) (by-room e .0) .1
 
   pub count-fits : by-planes ≡ 0 → blockCount p ≤ maxSide * maxSide
-  count-fits e = count-most p (length s) (pair p (length s) w (length work) (planes-pass e .1) .first)
+  count-fits e = blocks.count-fits word depth p (length s) w (length work) (by-blocks word depth p (length s) w (length work) e .0)
 
   pub blocks-most : intraFault word depth p s w work room ≡ 0 → blockCount p ≤ maxSide * maxSide
   blocks-most e = count-fits (by-room e .0)

@@ -1,6 +1,6 @@
 -- Where the whole blocks of a plane lie, and refusal 19 where there is none. Assumes nothing.
 use mathlib.Core.List.{List}
-use mathlib.Core.Path.{_≡_, sym, ap, _∙_}
+use mathlib.Core.Path.{_≡_, ap}
 use Prim.Native.Nat.{ℕ, _+_, _*_, _≤_, _<_}
 use native.Mathlib.Nat.{pos-of-ne-zero, add-mul, mul-le-mul}
 use native.Mathlib.Omega.{arith}
@@ -12,7 +12,7 @@ use Rattle.answer.proofs.Laws.{or-none, or-given, or-later, passed}
 use Rattle.plane.specs.declared.Plane.{Plane}
 use Rattle.plane.specs.Blocks.{blockSide, blocksAcross, blocksDown, blockCount, blockSample, blocksStart, blockRow, blockFault, blocksFault}
 use Rattle.plane.specs.Needs.{blockStart}
-use Rattle.plane.specs.Planes.{Word, maxSide, rowEnd, wordFault, planeFault, sizesFault, shapesFault}
+use Rattle.plane.specs.Planes.{Word, maxSide, rowEnd, wordFault, planeFault, shapesFault}
 use Rattle.plane.proofs.PlaneLaws.{Lies, pair, row-in}
 use Rattle.plane.proofs.SampleLaws.{by-shapes, shapes-alone}
 use Rattle.plane.proofs.SquareLaws.{square-place}

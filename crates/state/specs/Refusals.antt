@@ -1,7 +1,7 @@
 -- Document 01, "Refusal numbers": "Each is given exactly as stated, the first that applies in the order 11, .. 7, 8, 9, 10." Each part of
 -- a refusal is a test with a name; `long` stands for L, n for the frame number, p for the previous keyframe, o for the offset.
 use mathlib.Core.List.{List}
-use mathlib.Core.Bool.{Bool, true, false, not, _&&_, _||_}
+use mathlib.Core.Bool.{Bool, not, _&&_, _||_}
 use Prim.Native.Nat.{ℕ, _+_, _-_, _^_}
 use lib.Dec.{eqb, leb, ltb}
 use lib.ListN.{length, getD}
