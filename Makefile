@@ -1,7 +1,7 @@
 # Brinepulley: `make help` says what there is. GNU make.
 # It builds for the machine that it runs on, into build/; for another one with TARGET=, into build/TARGET/: make/target.mk.
 
-VERSION := 0.9.0
+VERSION := 0.10.0
 PREFIX ?= /usr/local
 DESTDIR ?=
 CFLAGS ?= -O2 -g

@@ -20,8 +20,7 @@ asRead g c =
 abbrev pub Has : Call → ℕ → Type 0
 Has c k = (k ≤ normalLookahead) × (suc k < c .setLength)
 
--- wherever two calls have an item of the same pair, it is the same: "Item k of a list is pair n + k". Any two NaNs are the same, as there
--- is one NaN among the floats of the logic
+-- wherever two calls have an item of the same pair, it is the same: "Item k of a list is pair n + k"
 abbrev pub Agree : Settings → Call → Call → Type 0
 Agree g c d = (j k : ℕ) → Has c j → Has d k → c .number + j ≡ d .number + k → itemIn g c j ≡ itemIn g d k
 
