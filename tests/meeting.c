@@ -13,11 +13,11 @@ enum { MOST_BEFORE = 30, FURTHER = 20, SHORTEST_SET = 7, GUARD_WORDS = 8, LAST_R
 /* What the pairs of each mode must bring at the least, so that the test can fail. It is less than half of what they bring:
    that is the number behind "of", the lower one of the two modes. */
 enum {
-    LEAST_REFUSED = 20000, /* of 50,221 calls refused with each of 7, 8 and 10: one that changed something would show */
+    LEAST_REFUSED = 20000, /* of 50,153 calls refused with each of 7, 8 and 10: one that changed something would show */
     LEAST_APART = 500,     /* of 1,179 Standard pairs that nine calls do not bring together: ten are needed */
-    LEAST_CUTS = 200,      /* of 723 cuts behind the meeting that the scores decided, and not the distance, */
-    LEAST_NO_CUTS = 10000, /* and of 22,677 such calls without a cut: the answers are not all the same */
-    LEAST_ENDS = 100       /* of 595 pairs that come to the last number, 2^32 - 1: no call is left then */
+    LEAST_CUTS = 200,      /* of 696 cuts behind the meeting that the scores decided, and not the distance, */
+    LEAST_NO_CUTS = 10000, /* and of 22,241 such calls without a cut: the answers are not all the same */
+    LEAST_ENDS = 100       /* of 599 pairs that come to the last number, 2^32 - 1: no call is left then */
 };
 
 _Static_assert(MOST_BEFORE + STANDARD_CALLS + FURTHER + BRINE_SET_LIMIT < FILM_PAIRS, "the film is long enough");
