@@ -6,7 +6,7 @@
 
 static const struct size {
     size_t width, height;
-    bool has_block; /* one */
+    bool has_block; /* just one */
 } sizes[] = {{7, 8, false}, {8, 7, false}, {7, 7, false}, {8, 8, true}, {15, 8, true}};
 
 enum { SIZES = sizeof sizes / sizeof sizes[0], MOST = 15 * 8 };

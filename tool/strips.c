@@ -22,11 +22,13 @@ bool strips_make(struct strips *s, struct film *film, size_t factor, size_t rows
 
     *s = (struct strips){.film = film, .factor = factor, .mode = mode};
     s->rows = rows < height ? rows : height;
+    const bool made = plane_make(&s->full, film->width, (s->rows + 1) * factor - 1, film->depth)
+        && plane_make(&s->now, width, s->rows, film->depth) && plane_make(&s->kept, width, height, film->depth);
+    if (mode != BRINE_MODE_STANDARD)
+        return made;
     s->block_count = (width / 8) * (height / 8);
     s->blocks = calloc(s->block_count + 1, sizeof *s->blocks);
-    return s->blocks != NULL && plane_make(&s->full, film->width, (s->rows + 1) * factor - 1, film->depth)
-        && plane_make(&s->now, width, s->rows, film->depth) && plane_make(&s->kept, width, height, film->depth)
-        && plane_make(&s->room, width, ROOM_ROWS, film->depth);
+    return made && s->blocks != NULL && plane_make(&s->room, width, ROOM_ROWS, film->depth);
 }
 
 /* The strip against the rows that it takes the place of. Fast mode asks for the difference alone, which frames without a whole block have
@@ -64,7 +66,10 @@ static enum status refused(const struct strips *s, int64_t answer, const char *f
 /* Reads the frame to its end, also behind a strip that is refused. */
 static enum status read_strips(struct strips *s)
 {
-    int64_t answer = brine_strips_start(s->kept.depth, s->kept.width, s->kept.height, s->carry, BRINE_CARRY);
+    const struct plane *frame = &s->kept;
+    int64_t answer = s->mode == BRINE_MODE_STANDARD
+                         ? brine_strips_start(frame->depth, frame->width, frame->height, s->carry, BRINE_CARRY)
+                         : 0;
     char fault[FAULT_ROOM] = "";
 
     s->difference = 0;

@@ -20,11 +20,11 @@ struct strips {
     struct plane full; /* a strip as the film has it, .. */
     struct plane now;  /* .. and reduced */
     struct plane kept; /* the frame before, reduced; from its first row on it becomes the new one */
-    struct plane room; /* the library's */
+    uint64_t difference; /* Fast mode's, so far */
+    struct plane room;   /* Standard mode's, as all behind it: the library's own */
     uint32_t *blocks;
     size_t block_count;
     uint64_t carry[BRINE_CARRY];
-    uint64_t difference; /* in Fast mode, so far */
 };
 
 /* Makes room; false where memory ran out. The sides and the factor must be ones that the library accepts. strips_free is due

@@ -162,7 +162,7 @@ fn orders_of_steps(desk: &mut Desk) {
     refused(desk, changed(standard(0, 4, 2, 0), |c| c.set = 1), 9);
 }
 
-/// The same of planes: 5, then 1 and 2 of the first, 1 and 2 of the second, 3, 4; and of lists: 2, 10.
+/// The same of planes: 5, then 1 and 2 of the first, 1 and 2 of the second, 3, 4; and of lists: 2, 10. 19 is in block_edges.rs.
 fn orders_of_measures(desk: &mut Desk) {
     let plane = |width: u64, samples: usize| Lent { samples: vec![3u8; samples], width, height: 8, stride: 9, origin: 0 };
     let sound = plane(8, 72);

@@ -104,8 +104,8 @@ fn all_differences(depth: u64, p: Plane, a: &[u16], q: Plane, b: &[u16]) -> Whol
     Whole::Number(total)
 }
 
-// The importance total of two planes, before the division. Shapes and blocks are asked for one after the other: `blocks_fault`, which does
-// both, the compiler keeps apart, and to hand it two planes takes 112 bytes of stack.
+// The importance total of two planes, before the division. Shapes and blocks are asked for one after the other. `blocks_fault` does both, but
+// the compiler keeps it apart, and two planes as its arguments take 112 bytes of stack.
 pub fn importance_total(depth: u64, p: Plane, a: &[u16], q: Plane, b: &[u16]) -> Whole
     ensures { λ r. ⌜ wholeAnswer r ≡ totalOf deep depth p (now (a .entry)) q (now (b .entry)) ⌝ }
 {

@@ -57,8 +57,8 @@ block-passes count h = rw (ne-eqb count 0 (λ e. omega arith))
 
 module _ (word : Word) (depth : ℕ) (p : Plane) (n : ℕ) (q : Plane) (m : ℕ) where
   -- their number fits, where it is looked at
-  pub count-fits : shapesFault word depth p n q m ≡ 0 → blockCount p ≤ maxSide * maxSide
-  count-fits e = count-most p n (pair p n q m (by-shapes word depth p n q m e .1) .first)
+  pub shapes-count : shapesFault word depth p n q m ≡ 0 → blockCount p ≤ maxSide * maxSide
+  shapes-count e = count-most p n (pair p n q m (by-shapes word depth p n q m e .1) .first)
 
   -- the shapes come first
   pub shapes-first : (r : ℕ) → r ≡ shapesFault word depth p n q m → (r ≡ 0 → ⊥) → r ≡ blocksFault word depth p n q m

@@ -48,7 +48,7 @@ blockRow p n y = cond (ltb y (blocksDown p) && leb (rowEnd p (y * blockSide)) n)
 
 -- ---- 19
 
--- "no block", where there are so many whole ones
+-- "no block", by the number of whole ones
 unfoldable pub blockFault : ℕ → ℕ
 blockFault count = refusal 19 (eqb count 0)
 

@@ -99,6 +99,6 @@ unfoldable pub pairFault : Word → ℕ → Plane → List ℕ → Plane → Lis
 pairFault word depth p a q b =
     shapesFault word depth p (length a) q (length b) orElse refusal 16 (tooLarge depth p a || tooLarge depth q b)
 
--- what a measure of two planes answers: refused, or this value
+-- what difference and delta answer: refused, or this value
 abbrev pub pairAnswer : {A : Type 0} → Word → ℕ → Plane → List ℕ → Plane → List ℕ → A → Answer A
 pairAnswer word depth p a q b value = answered (pairFault word depth p a q b) value

@@ -1,4 +1,4 @@
-// A plane, as v_frame's Plane: a plain record beside a lent slice of samples, and when document 01 refuses it.
+// A plane, as v_frame's Plane: a plain record beside a lent slice of samples, and when it is refused.
 ghost use mathlib.Core.Path.{_≡_};
 ghost use Prim.Native.Nat.{_*_};
 ghost use lib.Dec.{leb};
@@ -177,7 +177,8 @@ pub fn shapes_fault(depth: u64, p: Plane, n: usize, q: Plane, m: usize) -> u32
     sizes_fault(p, n, q, m)
 }
 
-// The refusal of a measure of two planes over their lent bytes, or 0. No byte is too large for its depth, so none is looked at.
+// The refusal of the difference and of delta, of two planes over their lent bytes, or 0. No byte is too large for its depth, so none is
+// looked at.
 pub fn pair_fault(depth: u64, p: Plane, a: &[u8], q: Plane, b: &[u8]) -> u32
     ensures { λ r. ⌜ r ≡ pairFault byte depth p (now (a .entry)) q (now (b .entry)) ⌝ }
 {

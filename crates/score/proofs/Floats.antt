@@ -16,7 +16,7 @@ use Rattle.score.specs.declared.ScenecutResult.{ScenecutResult}
 use Rattle.score.specs.Cut.{reached, over}
 use Rattle.score.specs.Costs.{forbidden}
 
--- ---- "a NaN must fail both tests": at or above, and below. No list holds one, but a state from before may
+-- ---- "a NaN must fail both tests": at or above, and below. No list holds one, but a state from before L7 may
 
 pub nan-fails-both : (t : Float) → (le t nan ≡ false) × (lt nan t ≡ false)
 unfolding le lt eq

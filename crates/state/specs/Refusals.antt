@@ -129,7 +129,7 @@ readsAll g = not (isFast g) && readsInter g
 abbrev pub wrongLength : ℕ → List Float → Bool
 wrongLength items l = not (eqb (length l) items)
 
--- a number that is "NaN, infinite or below 0", in whichever list: document 02, L7, "10 now covers NaN everywhere in a read list"
+-- a number that 10 forbids, in whichever list
 abbrev pub holdsForbidden : List Float → Bool
 holdsForbidden l = anyOf forbidden l
 

@@ -5,7 +5,7 @@ use borrow.Author.Needs.{needs}
 use lib.ListN.{length}
 use Rattle.plane.specs.Blocks.{blocksFault}
 use Rattle.plane.specs.Planes.{deep, shapesFault}
-use Rattle.plane.proofs.BlockLaws.{count-fits, shapes-first, blocks-next}
+use Rattle.plane.proofs.BlockLaws.{shapes-count, shapes-first, blocks-next}
 use Rattle.plane.proofs.SampleLaws.{by-shapes, suited}
 use Rattle.importance.proofs.RowLooks.{shapes-refused, shapes-passed}
 use Rattle.importance.proofs.deep.importance_total.Statement.{statement}
@@ -24,7 +24,7 @@ mul-block-fault : tie.Need-mul-block-fault
 mul-block-fault c =
     let d = c .before .before in
     let s = d .before .before .before .before .args in
-    omega (arith, count-fits deep (s .depth) (s .p) (length (s .a .now)) (s .q) (length (s .b .now)) (sym (shapes d)))
+    omega (arith, shapes-count deep (s .depth) (s .p) (length (s .a .now)) (s .q) (length (s .b .now)) (sym (shapes d)))
 
 -- what is found by shapes and blocks
 found : (c : tie.After-block-fault)
