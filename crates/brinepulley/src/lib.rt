@@ -1,5 +1,7 @@
 // The library for C. Each function answers a number at or above 0, or a refusal's number negated. What it
 // writes to lent places is in its contract, whole.
+#![tactic(auto)]
+
 ghost use Rattle.std.specs.Prelude.{◌≡◌};
 ghost use Rattle.hadamard.specs.Transform.{transform_fault, after_transform};
 ghost use Rattle.importance.specs.Importance.{total_of, importance_of};

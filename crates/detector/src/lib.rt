@@ -1,4 +1,6 @@
 // The detector: `SceneChangeDetector` of analyze.rs, with its `analyze_next_frame` as a step that takes a state and gives the next.
+#![tactic(auto)]
+
 ghost use Rattle.std.specs.Prelude.{◌≡◌, ◌-◌, max, length};
 ghost use Rattle.score.specs.Deque.{content};
 ghost use Rattle.state.specs.State.{view, call};
@@ -15,7 +17,7 @@ mod rules;
 pub mod runs;
 
 // Whether a pair is a cut, and its score if there is one.
-#[derive(Drop)]
+#[derive(Clone, Copy)]
 pub enum Decision {
     Bare(bool),
     Scored(bool, ScenecutResult),
@@ -30,21 +32,21 @@ const RELEASE_REACH: u64 = 9;
 const LEFT_FRAME: u64 = 1;
 
 // What the step answers: the number of a refusal, or a decision.
-#[derive(Drop)]
+#[derive(Clone, Copy)]
 pub enum StepAnswer {
     Refused(u32),
     Decided(Decision),
 }
 
 // The answer, with the next state beside it.
-#[derive(Drop)]
+#[derive(Clone, Copy)]
 pub struct Stepped {
     pub answer: StepAnswer,
     pub state: State,
 }
 
 // A fresh detector. `fault` is the number of its refusal, or 0; where it is not 0, every step of the state is refused.
-#[derive(Drop)]
+#[derive(Clone, Copy)]
 pub struct Opened {
     pub fault: u32,
     pub state: State,

@@ -10,7 +10,7 @@ use score::{Measure, ScoreDeque, decision, scoring};
 use settings::Settings;
 
 // The deque and the offset within a call. `again` says that rule 4 scored every item, so that rule 5 scores one twice.
-#[derive(Drop)]
+#[derive(Clone, Copy)]
 pub struct Progress {
     pub deque: ScoreDeque,
     pub offset: usize,

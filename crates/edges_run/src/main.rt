@@ -1,5 +1,7 @@
 // Writes the values of document 01's "Values at the edges" that have no star, and values that tell its rules from other readings of
 // them, one to a line: a number, or the bits of a float.
+#![tactic(auto)]
+
 use answer::{Real, Whole};
 use detector::{Decision, StepAnswer, Stepped, runs};
 use plane::Plane;

@@ -1,6 +1,8 @@
 // The Hadamard transform in place, of four rows of four entries and of eight rows of eight. All lines have four entries:
 // 16 entries are four columns and four rows of four, and 64 are four columns of 16 and 16 rows of four. Each line is loaded,
 // transformed and stored in its place, the rows of 64 a stage at a time: there is no other list than the caller's.
+#![tactic(auto)]
+
 ghost use Rattle.std.specs.Prelude.{◌≡◌, ◌+◌, ◌*◌, ◌<◌, ◌^◌, nat_abs, length};
 ghost use Rattle.answer.specs.Refusal.{refusal};
 ghost use Rattle.hadamard.specs.Transform.{output, entry_most, beyond_most, transform_fault, after_transform};
@@ -12,7 +14,7 @@ const MOST: i32 = 65535;
 const LEAST: i32 = -65535;
 
 // Four entries of a line.
-#[derive(Drop)]
+#[derive(Clone, Copy)]
 struct Four {
     x0: i32,
     x1: i32,
@@ -21,7 +23,7 @@ struct Four {
 }
 
 // A sum and a difference.
-#[derive(Drop)]
+#[derive(Clone, Copy)]
 struct Two {
     sum: i32,
     difference: i32,

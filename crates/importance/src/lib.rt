@@ -1,4 +1,6 @@
 // Importance: `estimate_importance_block_difference` of analyze/importance.rs, before the division and after it.
+#![tactic(auto)]
+
 ghost use Rattle.std.specs.Prelude.{◌≡◌, ℕ, ◌+◌, ◌*◌, ◌≤◌, ◌<◌, length, get_or};
 ghost use Rattle.answer.specs.Answer.{whole_answer, real_answer};
 ghost use Rattle.plane.specs.Blocks.{block_side, blocks_down};

@@ -1,4 +1,6 @@
 // Intra costs: `estimate_intra_costs` of analyze/intra.rs, with the flat prediction of intra/rust.rs.
+#![tactic(auto)]
+
 ghost use Rattle.std.specs.Prelude.{◌≡◌, ℕ, ◌*◌, ◌≤◌, ◌<◌, ltb, length, get_or};
 ghost use Rattle.answer.specs.Answer.{whole_answer};
 ghost use Rattle.plane.specs.Blocks.{block_side, blocks_across, blocks_down, block_count, blocks_start};

@@ -1,4 +1,6 @@
 // The detector over lent places: its state in numbers, and doubles for each score that it has room for, as a recorder keeps it.
+#![tactic(auto)]
+
 ghost use Rattle.std.specs.Prelude.{◌≡◌, ◌++◌, ◌≤◌, length, take, drop};
 ghost use Rattle.score.specs.Deque.{content};
 ghost use Rattle.state.specs.State.{view, call};

@@ -1,5 +1,7 @@
 // Numbers and floats as bytes, low byte first, and back. Where the bytes do not all lie within a list, reading gives 0 and
 // writing changes nothing.
+#![tactic(auto)]
+
 ghost use Rattle.std.specs.Prelude.{◌≡◌, ◌+◌, ◌^◌, ◌≤◌, ◌<◌, leb, length, take, drop};
 ghost use Rattle.std.specs.Float.{binary64};
 ghost use Rattle.std.specs.Float.Ieee.{to_bits, of_bits};

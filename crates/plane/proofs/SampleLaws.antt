@@ -19,7 +19,7 @@ use Rattle.answer.specs.declared.Whole.TheVariants as whole
 use Rattle.answer.proofs.Laws.{or_no, or_none, or_given, or_later, passed}
 use Rattle.sums.specs.Any.{any_below}
 use Rattle.sums.specs.Needs.{byte_most}
-use Rattle.sums.proofs.AnyLaws.{any_zero, any_more, any_none, any_ext, any_below, any_at}
+use Rattle.sums.proofs.AnyLaws.{any_zero, any_more, any_none, any_ext, any_below_lem, any_at}
 use Rattle.plane.specs.declared.Plane.{Plane}
 use Rattle.plane.specs.Planes.{Word, byte, deep, suits, sample_at, row_of, row_large, rows_large, word_fault, plane_fault, sizes_fault, too_large, sample_fault, shapes_fault, pair_fault}
 use Rattle.plane.proofs.PlaneLaws.{Lies, length_row, row_at, sizes_alone}
@@ -93,13 +93,13 @@ large_in p s n y = any_below p.width (large_at p s y n)
 pub row_large_lem : (p : Plane) (s : List ℕ) (y : ℕ) → Lies p (length s) → y < p.height → (n : ℕ) → row_large n p s y ≡ large_in p s n y
 row_large_lem p s y l h n =
     rw (length_row p s y l h)
-    (any_below p.width (λ (x : ℕ). leb (2 ^ n) (get_or (row_of p s y) x 0)) (large_at p s y n) (λ x x<. ap (leb (2 ^ n)) (row_at p s y l h x x<)))
+    (any_below_lem p.width (λ (x : ℕ). leb (2 ^ n) (get_or (row_of p s y) x 0)) (large_at p s y n) (λ x x<. ap (leb (2 ^ n)) (row_at p s y l h x x<)))
 
 -- rows from one up to another, by the plane's samples
 pub rows_are : (depth : ℕ) (p : Plane) (s : List ℕ) (from to : ℕ) → Lies p (length s) → to ≤ p.height
     → rows_large depth p s from to ≡ any_below (to - from) (λ (j : ℕ). large_in p s depth (from + j))
 rows_are depth p s from to l h =
-    any_below (to - from) (λ (j : ℕ). row_large depth p s (from + j)) (λ (j : ℕ). large_in p s depth (from + j))
+    any_below_lem (to - from) (λ (j : ℕ). row_large depth p s (from + j)) (λ (j : ℕ). large_in p s depth (from + j))
     (λ j j<. row_large_lem p s (from + j) l (omega arith) depth)
 
 -- and all of them

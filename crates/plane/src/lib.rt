@@ -1,4 +1,6 @@
 // A plane, as v_frame's Plane: a plain record beside a lent slice of samples, and when it is refused.
+#![tactic(auto)]
+
 ghost use Rattle.std.specs.Prelude.{◌≡◌, ◌*◌, leb};
 ghost use Rattle.plane.specs.Blocks.{block_row, block_fault, blocks_fault};
 ghost use Rattle.plane.specs.Needs.{SpanOf};
@@ -16,7 +18,7 @@ const BYTE_DEPTH: u64 = 8;
 pub const BLOCK_SIDE: usize = 8;
 
 // A plane over lent samples: sample (x, y) is at origin + y * stride + x.
-#[derive(Drop)]
+#[derive(Clone, Copy)]
 pub struct Plane {
     pub width: usize,
     pub height: usize,
@@ -25,7 +27,7 @@ pub struct Plane {
 }
 
 // Where a row's visible samples stand among the lent ones.
-#[derive(Drop)]
+#[derive(Clone, Copy)]
 struct Span {
     start: usize,
     end: usize,

@@ -3,6 +3,8 @@
 //
 // A row of squares is taken in chunks of 128 columns. The chunk's 64 sums are of two columns each. They gain two rows at a
 // time, eight sums at once: so the compiler takes 16 samples of a row by one vector instruction.
+#![tactic(auto)]
+
 ghost use Rattle.std.specs.Prelude.{false, ◌≡◌, ℕ, ◌+◌, ◌*◌, ◌/◌, ◌≤◌, ◌<◌, ◌^◌, ltb, length, get_or};
 ghost use Rattle.plane.specs.Needs.{square_from};
 ghost use Rattle.plane.specs.Planes.{plane_fault, byte};

@@ -1,5 +1,7 @@
 // Replays the fixed list, from the standard input: calls with the answers of the crate. Each is given to the library, and
 // what it answers and writes is compared. A list that was changed, cut short or is no list fails too.
+#![tactic(auto)]
+
 mod calls;
 mod cut;
 mod deep;

@@ -7,7 +7,7 @@ const SAMPLES: usize = 8704;
 const COSTS: usize = 64;
 
 // A plane's length and shape.
-#[derive(Drop)]
+#[derive(Clone, Copy)]
 pub struct Shape {
     pub n: usize,
     pub w: usize,

@@ -16,7 +16,7 @@ use Rattle.plane.proofs.SampleLaws.{Reach, reach_or, large_at, large_in, row_lar
 use Rattle.sums.specs.Any.{any_below}
 use Rattle.sums.specs.Needs.{word_most}
 use Rattle.sums.specs.Sums.{sum_below}
-use Rattle.sums.proofs.AnyLaws.{any_or, any_ext, any_below, any_cut}
+use Rattle.sums.proofs.AnyLaws.{any_or, any_ext, any_below_lem, any_cut}
 use Rattle.sums.proofs.SumLaws.{NextSum, next_sum, sum_split}
 use Rattle.sad.specs.Needs.{gap_at, gaps_from, large_from}
 

@@ -13,7 +13,7 @@ use Rattle.plane.proofs.PlaneLaws.{pair}
 use Rattle.plane.proofs.SampleLaws.{measured, large_at, large_in}
 use Rattle.sums.specs.Quotient.{quotient_of}
 use Rattle.sums.specs.Sums.{apart}
-use Rattle.sums.proofs.AnyLaws.{any_below}
+use Rattle.sums.proofs.AnyLaws.{any_below_lem}
 use Rattle.sums.proofs.SumLaws.{sum_ext}
 use Rattle.sad.specs.Difference.{row_sad, plane_sad, difference_of, delta_of}
 
@@ -26,8 +26,8 @@ pub record Alike (p : Plane) (s t : List ℕ) : Type 0 where
 large_alike : (depth : ℕ) (p : Plane) (s t : List ℕ) → Alike p s t → too_large depth p s ≡ too_large depth p t
 unfolding too_large
 large_alike depth p s t a =
-    any_below p.height (large_in p s depth) (large_in p t depth)
-    (λ y y<. any_below p.width (large_at p s y depth) (large_at p t y depth) (λ x x<. ap (leb (2 ^ depth)) (a.samples y x y< x<)))
+    any_below_lem p.height (large_in p s depth) (large_in p t depth)
+    (λ y y<. any_below_lem p.width (large_at p s y depth) (large_at p t y depth) (λ x x<. ap (leb (2 ^ depth)) (a.samples y x y< x<)))
 
 module _ (word : Word) (depth : ℕ) (p : Plane) (a a' : List ℕ) (q : Plane) (b b' : List ℕ) (first : Alike p a a') (second : Alike q b b') where
   -- both sums run over the visible samples alone

@@ -17,7 +17,7 @@ use plane::Plane;
 const CHUNK: usize = 256;
 
 // Of a chunk: the sum of the distances' low bytes, that of their high bytes, and the bits that some sample has.
-#[derive(Drop)]
+#[derive(Clone, Copy)]
 struct Chunk {
     low: u16,
     high: u16,
@@ -25,7 +25,7 @@ struct Chunk {
 }
 
 // Of a row: the sum of the distances, and the bits that some sample has.
-#[derive(Drop)]
+#[derive(Clone, Copy)]
 struct Row {
     sum: u32,
     bits: u16,

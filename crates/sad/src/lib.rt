@@ -1,4 +1,6 @@
 // The plane difference: `sad_plane` of data/sad/rust.rs, and delta, as `delta_in_planes` of analyze/fast.rs has it.
+#![tactic(auto)]
+
 ghost use Rattle.std.specs.Prelude.{◌≡◌, ◌+◌, ◌*◌, ◌^◌, ◌≤◌, ◌<◌, length};
 ghost use Rattle.answer.specs.Answer.{whole_answer, real_answer};
 ghost use Rattle.plane.specs.Planes.{byte, max_side, sizes_fault};

@@ -1,4 +1,6 @@
 // The sum of absolute transformed differences of two blocks of eight rows of eight samples.
+#![tactic(auto)]
+
 ghost use Rattle.std.specs.Prelude.{◌≡◌, ◌*◌, ◌<◌, ◌^◌, nat_abs, pos, ◌-ℤ◌, length};
 ghost use Rattle.answer.specs.Answer.{whole_answer};
 ghost use Rattle.hadamard.specs.Transform.{entry_most};

@@ -1,4 +1,6 @@
 // The scale rule of Fast mode: `detect_scale_factor` of analyze/fast.rs, and the sides that it reduces a frame to.
+#![tactic(auto)]
+
 ghost use Rattle.std.specs.Prelude.{◌≡◌};
 ghost use Rattle.answer.specs.Answer.{whole_answer};
 ghost use Rattle.scale.specs.Scale.{factor_by, scale_of, size_fault, factor_answer, sides_answer, reduced_sides};
@@ -11,7 +13,7 @@ const FAST: u64 = 1;
 const STANDARD: u64 = 2;
 
 // The sides of a frame as Fast mode compares it, or the number of the refusal.
-#[derive(Drop)]
+#[derive(Clone, Copy)]
 pub enum Sides {
     Reduced { width: usize, height: usize },
     Refused(u32),

@@ -1,4 +1,6 @@
 // The scores of analyze.rs: `ScenecutResult`, and the deque that holds them as an array and a count.
+#![tactic(auto)]
+
 ghost use Rattle.std.specs.Prelude.{◌≡◌, [], ◌∷◌, ◌≤◌, take, get_or};
 ghost use Rattle.settings.specs.Settings.{room};
 ghost use Rattle.score.specs.Deque.{score_from, no_score, content, held, holding, trimmed_to};
@@ -13,7 +15,7 @@ pub mod scoring;
 pub const F64_MAX: f64 = 1.7976931348623157e308;
 
 // The scores of a pair of frames, and which pair that is.
-#[derive(Drop)]
+#[derive(Clone, Copy)]
 pub struct ScenecutResult {
     pub pair_number: u64,
     pub inter_cost: f64,
@@ -24,7 +26,7 @@ pub struct ScenecutResult {
 }
 
 // What was measured of a pair of frames.
-#[derive(Drop)]
+#[derive(Clone, Copy)]
 pub struct Measure {
     pub inter: f64,
     pub importance: f64,
@@ -32,7 +34,7 @@ pub struct Measure {
 }
 
 // The scores that are kept, the newest in front. Slots past the count are no part of it.
-#[derive(Drop)]
+#[derive(Clone, Copy)]
 pub struct ScoreDeque {
     pub entries: [ScenecutResult; Settings::ROOM],
     pub count: usize,

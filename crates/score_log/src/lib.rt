@@ -1,5 +1,7 @@
 // The log of scores: records of 47 bytes, one behind the other. A power cut leaves a rest of fewer bytes, which the next append
 // writes over.
+#![tactic(auto)]
+
 ghost use Rattle.std.specs.Prelude.{◌≡◌, suc, ◌+◌, ◌*◌, ◌≤◌, length};
 ghost use Rattle.answer.specs.Answer.{whole_answer, answered, lent_after};
 ghost use Rattle.answer.specs.Refusal.{◌or_else◌};
@@ -11,7 +13,7 @@ ghost use Rattle.score_log.specs.Needs.{patterns_at, Roomy};
 use answer::Whole;
 
 // A record: the frame's number, the five numbers of its score, and 1 for a cut, 0 for none.
-#[derive(Drop)]
+#[derive(Clone, Copy)]
 pub struct Record {
     pub number: u32,
     pub inter_cost: f64,

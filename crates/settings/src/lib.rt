@@ -1,10 +1,12 @@
 // The settings of a detector, as `SceneChangeDetector` of analyze.rs has them, and the numbers that follow from them alone.
+#![tactic(auto)]
+
 ghost use Rattle.std.specs.Prelude.{◌≡◌};
 ghost use Rattle.settings.specs.Settings.{lookahead_offset, fast_threshold, importance_threshold, is_scaled, settings_fault};
 
 use answer::Whole;
 
-#[derive(Drop)]
+#[derive(Clone, Copy)]
 pub struct Settings {
     pub width: usize,
     pub height: usize,

@@ -1,4 +1,6 @@
 // The state of a detector (`SceneChangeDetector` of analyze.rs), and when document 01 refuses a call.
+#![tactic(auto)]
+
 ghost use Rattle.std.specs.Prelude.{◌≡◌, ◌-◌};
 ghost use Rattle.score.specs.Search.{any_of};
 ghost use Rattle.score.specs.Costs.{forbidden};
@@ -10,7 +12,7 @@ use score::{ScoreDeque, decision, numbers};
 use settings::Settings;
 
 // What a detector keeps between calls. A last number of 0 says that no call was accepted yet.
-#[derive(Drop)]
+#[derive(Clone, Copy)]
 pub struct State {
     pub settings: Settings,
     pub deque: ScoreDeque,

@@ -22,7 +22,7 @@ use Rattle.sums.specs.Any.{any_below}
 use Rattle.sums.specs.Places.{in_run}
 use Rattle.sums.specs.Sums.{sum_below, apart}
 use Rattle.sums.specs.Written.{written}
-use Rattle.sums.proofs.AnyLaws.{any_below, any_none}
+use Rattle.sums.proofs.AnyLaws.{any_below_lem, any_none}
 use Rattle.sums.proofs.PlaceLaws.{run_holds, fronts_next}
 use Rattle.sums.proofs.SumLaws.{sum_ext, sum_more, sum_none}
 use Rattle.sums.proofs.TableLaws.{table_below}
@@ -42,7 +42,7 @@ none_large depth p s h =
     all_fail p.height _ (λ y y<. all_fail p.width _ (λ x x<. lt-leb (2 ^ depth) (sample_at p s y x) (h y x y< x<)))
   where
     all_fail : (n : ℕ) (f : ℕ → Bool) → ((i : ℕ) → i < n → f i ≡ false) → any_below n f ≡ false
-    all_fail n f e = any_below n f (λ (_ : ℕ). false) e ∙ any_none n (λ (_ : ℕ). false) (λ _. refl)
+    all_fail n f e = any_below_lem n f (λ (_ : ℕ). false) e ∙ any_none n (λ (_ : ℕ). false) (λ _. refl)
 
 module _ (word : Word) (depth : ℕ) (frames : Strip) (before : List ℕ) where
   abbrev pub p : Plane

@@ -9,7 +9,7 @@ use plane::{BLOCK_SIDE, Plane};
 pub const CARRY: usize = 6;
 
 // What is carried from call to call, by name.
-#[derive(Drop)]
+#[derive(Clone, Copy)]
 pub struct Carry {
     pub width: usize,
     pub height: usize,

@@ -1,5 +1,7 @@
 // Frames that come a few rows at a time: start, strip after strip, and the end. What is kept between calls is the carry, six numbers, the lent
 // room with the rows of the row of blocks that is not finished, and the costs.
+#![tactic(auto)]
+
 ghost use Rattle.std.specs.Prelude.{◌||◌, ◌≡◌, ℕ, ◌+◌, ◌*◌, ◌≤◌, ◌<◌, ◌^◌, length, get_or};
 ghost use Rattle.answer.specs.Answer.{whole_answer, answered};
 ghost use Rattle.answer.specs.Refusal.{refusal};
@@ -19,7 +21,7 @@ pub mod deep;
 mod shape;
 
 // What the end gives: the number of whole blocks, the difference and the importance total.
-#[derive(Drop)]
+#[derive(Clone, Copy)]
 pub struct Totals {
     pub blocks: u64,
     pub difference: u64,
@@ -27,7 +29,7 @@ pub struct Totals {
 }
 
 // The end's answer: what was measured, or a refusal's number.
-#[derive(Drop)]
+#[derive(Clone, Copy)]
 pub enum Ended {
     Measured(Totals),
     Refused(u32),

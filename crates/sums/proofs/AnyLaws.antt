@@ -39,10 +39,10 @@ any_ext zero f g e = refl
 any_ext (suc n) f g e = rw (any_ext n f g e, e n)
 
 -- equal as far as the range goes
-pub any_below : (n : ℕ) (f g : ℕ → Bool) → ((i : ℕ) → i < n → f i ≡ g i) → any_below n f ≡ any_below n g
+pub any_below_lem : (n : ℕ) (f g : ℕ → Bool) → ((i : ℕ) → i < n → f i ≡ g i) → any_below n f ≡ any_below n g
 unfolding any_below
-any_below zero f g e = refl
-any_below (suc n) f g e = rw (any_below n f g (λ i l. e i (omega arith)), e n (omega arith))
+any_below_lem zero f g e = refl
+any_below_lem (suc n) f g e = rw (any_below_lem n f g (λ i l. e i (omega arith)), e n (omega arith))
 
 -- two tests at once
 pub any_or : (n : ℕ) (f g : ℕ → Bool) → any_below n (λ (i : ℕ). f i || g i) ≡ any_below n f || any_below n g

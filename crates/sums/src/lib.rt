@@ -1,4 +1,6 @@
 // Small things that the crates above are made of: how far two samples lie apart, a total over a count, the lesser of two, a copy.
+#![tactic(auto)]
+
 ghost use Rattle.std.specs.Prelude.{◌≡◌, min};
 ghost use Rattle.sums.specs.Sums.{apart};
 ghost use Rattle.sums.specs.Quotient.{quotient_of};
