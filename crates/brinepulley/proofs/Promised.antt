@@ -54,7 +54,7 @@ module _ (word : Word) (depth : ℕ) (p : Plane) (a : List ℕ) (q : Plane) (b :
         (λ e.
         let f = (pair p (length a) q (length b) (measured word depth p a q b e)).first in
         quotient_passes (plane_sad p a q b) (p.width * p.height) (omega (arith, sad_most k a b l m word depth p q s e))
-        (mul-pos f.some-width f.some-height) (omega (arith, mul-le-mul f.width-most f.height-most)))
+        (mul-pos f.some_width f.some_height) (omega (arith, mul-le-mul f.width_most f.height_most)))
 
     importance_taken : Taken (importance_of word depth p a q b)
     importance_taken =

@@ -112,7 +112,7 @@ module _ {k : ℕ} {p : Plane} {a : List ℕ} {q : Plane} {b : List ℕ} {y star
       → part ≡ apart (mean org) (mean other) → GapTurn total part x
   gap_turn x total org other part x< h e d f =
       let l = planes.first in
-      let room = total_fits 1 (blocks_across p) k (omega arith) (omega (arith, l.width-most)) r.small in
+      let room = total_fits 1 (blocks_across p) k (omega arith) (omega (arith, l.width_most)) r.small in
       next_sum k (blocks_across p) (2 ^ 64) (gap_of a start p.stride b start2 q.stride)
       (λ x _. means_most k _ _ (squares_most k a r.most _ _) (squares_most k b r.most2 _ _))
       (omega arith) x total part x< h (rw (e, d) at f)

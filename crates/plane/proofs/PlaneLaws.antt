@@ -103,7 +103,7 @@ pub not_refused : (p : Plane) (n : ℕ) → Lies p n → plane_fault p n ≡ 0
 unfolding bad_plane
 not_refused p n l =
     let sides : bad_plane p ≡ false =
-    rw (side_passes p.width l.some-width l.width-most, side_passes p.height l.some-height l.height-most, le-ltb p.stride p.width l.strides) refl in
+    rw (side_passes p.width l.some_width l.width_most, side_passes p.height l.some_height l.height_most, le-ltb p.stride p.width l.strides) refl in
     sym (fault_none p n sides (le-leb (row_end p (p.height - 1)) n l.within))
 
 -- ---- its rows

@@ -65,14 +65,14 @@ module _ (k : ℕ) (a b : List ℕ) (l : (i : ℕ) → get_or a i 0 ≤ k) (m : 
       → total ≡ sum_below y (row_sad p a q b) → part ≡ row_sad p a q b y → NextSum (2 ^ 42) y total part (row_sad p a q b)
   rows_next p q s f =
       next_sum (p.width * k) p.height (2 ^ 42) (row_sad p a q b) (λ y _. row_most p q y)
-      (total_fits p.height p.width k f.height-most f.width-most s)
+      (total_fits p.height p.width k f.height_most f.width_most s)
 
   -- two planes that are not refused
   pub sad_most : (word : Word) (depth : ℕ) (p q : Plane) → k < 2 ^ 16 → pair_fault word depth p a q b ≡ 0 → plane_sad p a q b < 2 ^ 42
   unfolding plane_sad
   sad_most word depth p q s e =
       let f = (pair p (length a) q (length b) (measured word depth p a q b e)).first in
-      omega (arith, sum_most (p.width * k) p.height (row_sad p a q b) (λ y _. row_most p q y), total_fits p.height p.width k f.height-most f.width-most s)
+      omega (arith, sum_most (p.width * k) p.height (row_sad p a q b) (λ y _. row_most p q y), total_fits p.height p.width k f.height_most f.width_most s)
 
 -- two rows that were taken out of their planes are as long as the planes are wide, and their sum is the planes' own
 module _ (p : Plane) (a : List ℕ) (q : Plane) (b : List ℕ) (y : ℕ) (h : Pair p (length a) q (length b)) (y< : y < p.height) where

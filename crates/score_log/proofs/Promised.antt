@@ -206,7 +206,7 @@ scan_accepts log = (there, λ o. earliest_none (whole_records log) (record_fault
     back : InOrder log → (k : ℕ) → k < whole_records log → record_fault log k ≡ 0
     back o k l =
         passes (least_after log k) (record_in log k)
-        (record { mark = o.marks k l; cut = rw (cut_at log k l) at (o.cut-or-none k l); rises = rises o k l })
+        (record { mark = o.marks k l; cut = rw (cut_at log k l) at (o.cut_or_none k l); rises = rises o k l })
 
 -- It holds since each record gives as many items as every other.
 pub by_place : ByPlace

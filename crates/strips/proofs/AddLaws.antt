@@ -109,9 +109,9 @@ add_known word k s e =
 
 -- the numbers that are answered are small
 pub rows_small : (word : Word) (k : Kept) (s : Strip) → add_fault word k s ≡ 0 → (carry_of k.carry).rows + s.first.height ≤ max_side
-rows_small word k s e = let t = (add_known word k s e).0 in omega (arith, t.rows, t.carry.height-most)
+rows_small word k s e = let t = (add_known word k s e).0 in omega (arith, t.rows, t.carry.height_most)
 
 pub ended_small : (ns : List ℕ) → end_fault ns ≡ 0 → blocks_in (carry_of ns) ≤ max_side * max_side
 unfolding end_fault
 ended_small ns e =
-    let f = fit (carry_of ns) (carry_passed ns (or_none (carry_fault ns) _ e).0).1 in blocks_most (carry_of ns) f.width-most f.height-most
+    let f = fit (carry_of ns) (carry_passed ns (or_none (carry_fault ns) _ e).0).1 in blocks_most (carry_of ns) f.width_most f.height_most

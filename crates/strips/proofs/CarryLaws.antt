@@ -109,9 +109,9 @@ sound word c e d some =
     record {
       depth_fits = d;
       width_some = f.width_some;
-      width_most = f.width-most;
-      height_some = f.height-some;
-      height_most = f.height-most;
+      width_most = f.width_most;
+      height_some = f.height_some;
+      height_most = f.height_most;
       come = f.come;
       difference = ltb-false (totals_most c) c.difference t.0;
       importance = ltb-false (totals_most c) c.importance t.1;
@@ -170,6 +170,6 @@ most_small word depth e = go word (suited word depth e)
 
 pub totals_small : (word : Word) (c : Carry) → Sound word c → totals_most c < 2 ^ 42
 totals_small word c s =
-    let small = most_small word c.depth s.depth-fits in
+    let small = most_small word c.depth s.depth_fits in
     let k : 2 ^ c.depth - 1 < 2 ^ 16 = omega arith in
-    omega (arith, mul_assoc c.rows c.width (2 ^ c.depth - 1), total_fits c.rows c.width (2 ^ c.depth - 1) (omega (arith, s.come, s.height-most)) s.width-most k)
+    omega (arith, mul_assoc c.rows c.width (2 ^ c.depth - 1), total_fits c.rows c.width (2 ^ c.depth - 1) (omega (arith, s.come, s.height_most)) s.width_most k)

@@ -145,8 +145,8 @@ module _ (word : Word) (depth : ℕ) (frames : Strip) (before : List ℕ)
         let l = rows_level s.first.height (omega arith) in
         let rest : ℕ → ℕ → Kept = λ (d i : ℕ). kept (carry_numbers (carry_by p.width p.height depth (r + s.first.height) d i)) last.room last.costs in (
           sym (lent_written _ (taken word (state_at r room costs) s) (state_at r room costs) (sym strip_accepted))
-              ∙ ap (λ (d : ℕ). rest d last.total) difference_next ∙ ap (rest (at (r + s.first.height)).difference) l.total-is,
-          subst (λ (n : ℕ). Level word depth frames before (r + s.first.height) n last.room last.costs) l.total-is l,
+              ∙ ap (λ (d : ℕ). rest d last.total) difference_next ∙ ap (rest (at (r + s.first.height)).difference) l.total_is,
+          subst (λ (n : ℕ). Level word depth frames before (r + s.first.height) n last.room last.costs) l.total_is l,
         )
 
   -- ---- all strips
@@ -168,7 +168,7 @@ module _ (word : Word) (depth : ℕ) (frames : Strip) (before : List ℕ)
   all_strips r room costs here list (s ∷ rest) c =
       let n = r + s.first.height in
       let within = cut_within n rest c.1 in
-      let long : length costs ≡ length before = ap length here.costs-are ∙ length_written (λ (k : ℕ). ltb k (r / block_side * blocks_across p)) (cost_at (flat_sample depth) q frames.b) before in
+      let long : length costs ≡ length before = ap length here.costs_are ∙ length_written (λ (k : ℕ). ltb k (r / block_side * blocks_across p)) (cost_at (flat_sample depth) q frames.b) before in
       let fits : blocks_in (at r) ≤ length costs = omega (arith, long, list) in
       let leaves = strip_leaves r room costs here s c.0 within fits in
       let then = all_strips n _ _ leaves.1 list rest c.1 in
@@ -207,7 +207,7 @@ module _ (word : Word) (depth : ℕ) (frames : Strip) (w : Plane) (work ns room 
   start_passes e =
       let l = (planes word depth frames good).first in
       let sides : bad_side first.width || bad_side first.height ≡ false =
-      rw (side_passes first.width l.some-width l.width-most, side_passes first.height l.some-height l.height-most) refl in
+      rw (side_passes first.width l.some_width l.width_most, side_passes first.height l.some_height l.height_most) refl in
       started depth first.width first.height ns (eqb-true (length ns) carry_long e) (word_depth word depth suit) sides
 
   begins : is_carry ns ≡ true → start_after depth first.width first.height ns ≡ carry_numbers (carry_of 0)
@@ -240,7 +240,7 @@ module _ (word : Word) (depth : ℕ) (frames : Strip) (w : Plane) (work ns room 
     difference = sym (answer_given _ _ _ (sym good) refl);
     importance = sym (answer_given _ _ _ (sym (with_blocks word depth first frames.a second frames.b good some)) refl);
     blocks = sym (answer_given _ _ _ (sym intra) (sym blocks_same));
-    costs_are = ap (λ (k : Kept). k.costs) e ∙ l.costs-are
+    costs_are = ap (λ (k : Kept). k.costs) e ∙ l.costs_are
         ∙ ap (λ (n : ℕ). written (λ (k : ℕ). ltb k n) (cost_at (flat_sample depth) second frames.b) costs) (sym blocks_same)
         ∙ lent_written _ _ _ (sym intra);
   }

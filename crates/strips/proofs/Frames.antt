@@ -98,5 +98,5 @@ module _ (word : Word) (depth : ℕ) (frames : Strip) (fine : pair_fault word de
       let narrow : blocks_across p ≤ p.width = omega arith in
       let same : most ≤ most = omega arith in
       let blocks : r / block_side * (blocks_across p * most) ≤ r * (p.width * most) = mul-le-mul few (mul-le-mul narrow same) in
-      fits_back (carry_at r) l.some-width l.width-most l.some-height l.height-most h
+      fits_back (carry_at r) l.some_width l.width_most l.some_height l.height_most h
       (omega (arith, rows_most r h, limit)) (omega (arith, blocks_most (r / block_side) (omega arith), blocks, limit))

@@ -36,7 +36,7 @@ module _ (word : Word) (c : Carry) (s : Sound word c) (room : List ℕ) (enough 
   held_lies : (at : ℕ) → at + 8 * c.width ≤ length room → Lies (held_plane c at) (length room)
   held_lies at h = record {
     some_width = s.width_some;
-    width_most = s.width-most;
+    width_most = s.width_most;
     some_height = omega arith;
     height_most = omega arith;
     strides = omega arith;
@@ -53,13 +53,13 @@ module _ (word : Word) (c : Carry) (s : Sound word c) (room : List ℕ) (enough 
   unfolding shapes_fault sizes_fault sizes_differ
   shapes =
       let same : sizes_differ (held_first c) (held_second c) ≡ false = rw (eq-eqb c.width c.width refl) refl in
-      sym (or_both _ _ s.depth-fits
+      sym (or_both _ _ s.depth_fits
       (or_both _ _ (not_refused (held_first c) (length room) first_lies)
       (or_both _ _ (not_refused (held_second c) (length room) second_lies) (sym (test_passed 3 _ same)))))
 
   -- and have a block
   some : (at : ℕ) → 0 ≡ block_fault (block_count (held_plane c at))
-  some at = block_passes (block_count (held_plane c at)) (omega (arith, s.blocks-some))
+  some at = block_passes (block_count (held_plane c at)) (omega (arith, s.blocks_some))
 
   -- so only their samples can be refused
   pub held_pair : refusal 16 (too_large c.depth (held_first c) room || too_large c.depth (held_second c) room) ≡ importance_fault word c.depth (held_first c) room (held_second c) room
@@ -69,12 +69,12 @@ module _ (word : Word) (c : Carry) (s : Sound word c) (room : List ℕ) (enough 
 
   pub held_sample : refusal 16 (too_large c.depth (held_second c) room) ≡ sample_fault word c.depth (held_second c) room
   unfolding sample_fault
-  held_sample = or_later _ _ _ (sym s.depth-fits) (or_later _ _ _ (sym (not_refused (held_second c) (length room) second_lies)) refl)
+  held_sample = or_later _ _ _ (sym s.depth_fits) (or_later _ _ _ (sym (not_refused (held_second c) (length room) second_lies)) refl)
 
   held_costs : (n : ℕ) → block_count (held_second c) ≤ n → refusal 16 (too_large c.depth (held_second c) room) ≡ costs_fault word c.depth (held_second c) room n
   unfolding costs_fault
   held_costs n h =
-      or_later _ _ _ (sym s.depth-fits)
+      or_later _ _ _ (sym s.depth_fits)
       (or_later _ _ _ (sym (not_refused (held_second c) (length room) second_lies))
       (or_later _ _ _ (some (block_side * c.width)) (or_later _ _ _ (test_passed 4 _ (le-ltb n (block_count (held_second c)) h)) refl)))
 

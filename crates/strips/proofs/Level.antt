@@ -256,17 +256,17 @@ module _ (word : Word) (depth : ℕ) (frames : Strip) (before : List ℕ) where
               record {
                 enough = room_long_lem;
                 total_is = rw (eq-eqb (r % block_side) 7 e, down)
-                    (omega (arith, l.total-is, rise_is c t room (r / block_side) full, sum_more (r / block_side) (blocks_difference p a q b)));
+                    (omega (arith, l.total_is, rise_is c t room (r / block_side) full, sum_more (r / block_side) (blocks_difference p a q b)));
                 first = λ i x i< x<. absurd (omega arith);
                 second = λ i x i< x<. absurd (omega arith);
-                costs_are = rw (eq-eqb (r % block_side) 7 e, down) (costs_next c t room (r / block_side) full h.costs l.costs-are);
+                costs_are = rw (eq-eqb (r % block_side) 7 e, down) (costs_next c t room (r / block_side) full h.costs l.costs_are);
               }
           go (no m) =
               let down : (r + 1) / block_side ≡ r / block_side = omega arith in
               record {
                 enough = room_long_lem;
-                total_is = rw (ne_eqb (r % block_side) 7 m, down) (omega (arith, l.total-is));
+                total_is = rw (ne_eqb (r % block_side) 7 m, down) (omega (arith, l.total_is));
                 first = λ i x i< x<. rw down (first_held i x (omega arith) x<);
                 second = λ i x i< x<. rw down (second_held i x (omega arith) x<);
-                costs_are = rw (ne_eqb (r % block_side) 7 m, down) l.costs-are;
+                costs_are = rw (ne_eqb (r % block_side) 7 m, down) l.costs_are;
               }

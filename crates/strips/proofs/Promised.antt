@@ -92,11 +92,11 @@ stays_fit word k s e =
       add-mul c.rows s.first.height (c.width * most_of c),
     ) in
     let fits : carry_unfit next ≡ false =
-    fits_back next f.width_some f.width-most f.height-some f.height-most t.0.rows
+    fits_back next f.width_some f.width_most f.height_some f.height_most t.0.rows
     (omega (arith, limit, f.difference, difference_within word c s (length k.room) (length k.costs) t.0 t.1))
     (omega (arith, limit, f.importance, rows_total word c s s.first.height (held c.importance k.room k.costs))) in (
       ap (λ (x : Kept). carry_fault x.carry) is ∙ sym (fit_passed (carry_numbers next) refl fits),
-      ap (λ (x : Kept). depth_fault (carry_of x.carry).depth) is ∙ sym (word_depth word c.depth f.depth-fits),
+      ap (λ (x : Kept). depth_fault (carry_of x.carry).depth) is ∙ sym (word_depth word c.depth f.depth_fits),
     )
 
 -- ---- the costs

@@ -147,7 +147,7 @@ taken_known word c p n q m room costs f e =
 pub shapes_pass : (word : Word) (c : Carry) (p : Plane) (n : ℕ) (q : Plane) (m room costs : ℕ) → Taken word c p n q m room costs
     → 0 < p.height → shapes_fault word c.depth p n q m ≡ 0
 unfolding shapes_fault
-shapes_pass word c p n q m room costs t some = or_both (word_fault word c.depth) (sizes_fault p n q m) t.carry.depth-fits (t.sizes some)
+shapes_pass word c p n q m room costs t some = or_both (word_fault word c.depth) (sizes_fault p n q m) t.carry.depth_fits (t.sizes some)
 
 -- the room and the list may have other contents, if they stay as long
 pub taken_again : (word : Word) (c : Carry) (p : Plane) (n : ℕ) (q : Plane) (m : ℕ) {room costs room' costs' : ℕ}

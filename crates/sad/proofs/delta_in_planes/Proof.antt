@@ -31,7 +31,7 @@ sad-plane-requires c κs = sizes c
 mul-quotient : tie.Need-overflow-mul-quotient
 mul-quotient c =
     let f = (pair _ _ _ _ (sizes c.before.before)).first in
-    record { fits = omega (arith, mul-le-mul f.width-most f.height-most) }
+    record { fits = omega (arith, mul-le-mul f.width_most f.height_most) }
 
 quotient-requires : tie.Need-quotient-requires
 quotient-requires c κs = search rules

@@ -41,7 +41,7 @@ total-requires : tie.Need-total-requires
 total-requires c κs = let x = changed c.before.before in (x.size, x.within)
 
 add-t10 : tie.Need-overflow-add-t10
-add-t10 c = omega (arith, (changed c.before.before.before).sum-most, c.total.ensures)
+add-t10 c = omega (arith, (changed c.before.before.before).sum_most, c.total.ensures)
 
 cast-t16 : tie.Need-overflow-cast-t16
 cast-t16 c = search rules

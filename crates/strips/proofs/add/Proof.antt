@@ -102,7 +102,7 @@ came-requires c κs =
     let g = (entry l.before.before.before).args in
     let n = more-is m in
     let small = difference_small byte (read l) g.p g.a.now g.q g.b.now _ _ t n.0 255 (omega arith) (λ i. omega (arith, f.before.shared-slice-known.given i)) (λ i. omega (arith, f.shared-slice-known2.given i)) in
-    (omega (arith, t.rows, t.carry.height-most), omega (arith, n.1, small, t.carry.difference, totals_small byte (read l) t.carry))
+    (omega (arith, t.rows, t.carry.height_most), omega (arith, n.1, small, t.carry.difference, totals_small byte (read l) t.carry))
 
 put-carry-requires : tie.Need-put-carry-requires
 put-carry-requires c κs =

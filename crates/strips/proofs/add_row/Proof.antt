@@ -22,7 +22,7 @@ hold-row-requires c κs =
     let s = c.before.before.before.before.before.before.before.before in
     let h = planes s in
     let t = s.requires.0 in (
-      t.carry.width-most,
+      t.carry.width_most,
       (
         t.enough,
         (

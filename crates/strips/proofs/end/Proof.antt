@@ -40,7 +40,7 @@ blocks-requires c κs =
     let f = fit (carry_of l.before.before.before.before.args.carry.now) (carry_passed _ (sym (passes l.before))).1 in
     let width = ap (λ (k : Carry). k.width) l.lent-carry.ensures in
     let height = ap (λ (k : Carry). k.height) l.lent-carry.ensures in
-    (omega (arith, width, f.width-most), omega (arith, height, f.height-most))
+    (omega (arith, width, f.width_most), omega (arith, height, f.height_most))
 
 -- the blocks that were counted are the carry's
 found : (c : tie.After-block-fault)

@@ -41,7 +41,7 @@ returns-2 c =
 mul-quotient : tie.Need-overflow-mul-quotient
 mul-quotient c =
     let f = (pair _ _ _ _ (sizes c.before.before.before.before.before)).first in
-    record { fits = omega (arith, mul-le-mul f.width-most f.height-most) }
+    record { fits = omega (arith, mul-le-mul f.width_most f.height_most) }
 
 returns-3 : tie.Need-returns-3
 returns-3 c =

@@ -35,7 +35,7 @@ row-sad-requires c κs =
     let s = i.before.before.before.before.args in
     let h = planes i in
     let l = row_lengths s.p s.a.now s.q s.b.now i.before.loop.y h (omega arith) in
-    rw (c.before.row.ensures, c.row2.ensures) (l.0 ∙ sym l.1, omega (arith, l.0, h.first.width-most))
+    rw (c.before.row.ensures, c.row2.ensures) (l.0 ∙ sym l.1, omega (arith, l.0, h.first.width_most))
 
 next : (c : tie.After-row-sad invariant-loop decreases-loop)
     → let l = c.before.before.before.before in

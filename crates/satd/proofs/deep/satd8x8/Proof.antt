@@ -29,4 +29,4 @@ satd8x8-spec =
     (λ c. let s = c.before.before.before.before.args in second_refused s.first.now s.second.now c.before.if1.false c.if2.true)
     (λ c. search rules) (λ c κs. search rules) (λ c. search rules) (λ c κs. search rules) (λ c. search rules)
     (λ c κs. let x = changed c.before.before in (x.size, x.within))
-    (λ c. omega (arith, (changed c.before.before.before).sum-most, c.total.ensures)) (λ c. search rules) returns-3)
+    (λ c. omega (arith, (changed c.before.before.before).sum_most, c.total.ensures)) (λ c. search rules) returns-3)

@@ -35,7 +35,7 @@ add_total c =
     let r = c.before.before.before.before in
     let l = r.before.before.before.before in
     let s = l.before.before.before.before.before in
-    omega (arith, l.loop.invariant.2.small, r.add_row.ensures.1, s.requires.rows, s.requires.carry.height-most)
+    omega (arith, l.loop.invariant.2.small, r.add_row.ensures.1, s.requires.rows, s.requires.carry.height_most)
 
 add-j : tie.Need-overflow-add-j invariant-loop decreases-loop
 add-j c = search rules

@@ -41,7 +41,7 @@ match-fault-requires : tie.Need-match-fault-requires
 match-fault-requires c κs =
     let s = c.before.before.before.before.before.before.before.before in
     let f = fit s.args.c s.requires in
-    (f.width-most, f.height-most)
+    (f.width_most, f.height_most)
 
 returns-5 : tie.Need-returns-5
 returns-5 c =

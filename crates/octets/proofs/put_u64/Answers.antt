@@ -1,0 +1,16 @@
+-- `octets::put_u64` meets its contract: what `put_number` writes where the bytes lie there, else nothing. Assumes nothing.
+use mathlib.Core.Path.{sym, ◌∙◌}
+use borrow.Author.Tests.{leb-true}
+use Rattle.octets.proofs.Laws.{with_lies, with_lacks}
+use Rattle.octets.proofs.put_u64.Goals as goal
+
+pub put_number-requires : goal.put_number-requires
+put_number-requires c = leb-true _ _ (sym c.lies_within.ensures ∙ c.if-lies_within.true)
+
+pub returns-then-lies_within : goal.returns-then-lies_within
+returns-then-lies_within c =
+    let k = c in
+    k.put_number.ensures ∙ sym (with_lies 8 _ _ _ (sym k.lies_within.ensures ∙ k.if-lies_within.true))
+
+pub returns-else-lies_within : goal.returns-else-lies_within
+returns-else-lies_within c = sym (with_lacks 8 _ _ _ (sym c.lies_within.ensures ∙ c.if-lies_within.false))
