@@ -12,7 +12,6 @@ use Rattle.hadamard.proofs.columns.Goals as goal
 
 -- two share a place. Assumes nothing.
 
-
 pub loop-i-init : goal.loop-i-init
 loop-i-init c = (search rules, none_lined (output 16) 16 1 4 c.args.block.now)
 
@@ -23,7 +22,7 @@ slice_bounds-line16-count c =
     rw l.loop-i.invariant.1
     (subst (λ (at : ℕ). LineIn 16 at 4 entry_most (all_lined 16 1 4 l.loop-i.i s.args.block.now)) (omega arith)
     (next_line (output 16) 16 1 4 4 entry_most s.args.block.now s.requires l.loop-i.i (omega arith))) in
-    omega (arith, (column).room 0 (omega arith))
+    omega (arith, column.room 0 (omega arith))
 
 pub slice_bounds-line16-start : goal.slice_bounds-line16-start
 slice_bounds-line16-start c =
@@ -32,7 +31,7 @@ slice_bounds-line16-start c =
     rw l.loop-i.invariant.1
     (subst (λ (at : ℕ). LineIn 16 at 4 entry_most (all_lined 16 1 4 l.loop-i.i s.args.block.now)) (omega arith)
     (next_line (output 16) 16 1 4 4 entry_most s.args.block.now s.requires l.loop-i.i (omega arith))) in
-    omega (arith, (column).room 0 (omega arith))
+    omega (arith, column.room 0 (omega arith))
 
 pub line16-requires : goal.line16-requires
 line16-requires c =
@@ -42,7 +41,7 @@ line16-requires c =
     (subst (λ (at : ℕ). LineIn 16 at 4 entry_most (all_lined 16 1 4 l.loop-i.i s.args.block.now)) (omega arith)
     (next_line (output 16) 16 1 4 4 entry_most s.args.block.now s.requires l.loop-i.i (omega arith))) in
     let l = c.loop-i in
-    record { step_nonzero = omega arith; line_in = part_line 16 l.i 4 l.block (omega (arith, (column).room 0 (omega arith))) entry_most (column) }
+    record { step_nonzero = omega arith; line_in = part_line 16 l.i 4 l.block (omega (arith, column.room 0 (omega arith))) entry_most column }
 
 pub loop-i-preserved : goal.loop-i-preserved
 loop-i-preserved c =
@@ -56,7 +55,7 @@ loop-i-preserved c =
     let first = b.args.block.now in
     let next : l.i ≡ l.i * 1 = omega arith in (
       search rules,
-      part_lined 16 l.i 4 l.block (omega (arith, (column).room 0 (omega arith))) c.line16.new.block c.line16.ensures
+      part_lined 16 l.i 4 l.block (omega (arith, column.room 0 (omega arith))) c.line16.new.block c.line16.ensures
           ∙ ap (lined 16 l.i 4) l.invariant.1
           ∙ ap (λ (at : ℕ). lined 16 at 4 (all_lined 16 1 4 l.i first)) next
           ∙ more_lined (output 16) 16 1 4 l.i first,

@@ -14,7 +14,6 @@ use Rattle.hadamard.proofs.count_beyond.Goals as goal
 
 -- rest of the list has the others. Assumes nothing.
 
-
 pub loop-i-init : goal.loop-i-init
 loop-i-init c = (search rules, search rules, search rules, none_passed _)
 
@@ -34,7 +33,7 @@ loop-i-preserved c =
       search rules,
       search rules,
       omega (arith, told, one_at_most (beyond_most (get_or block l.loop-i.i (pos 0))), l.loop-i.invariant),
-      one_passed block l.loop-i.n l.loop-i.i (omega arith) l.loop-i.invariant.3 ∙ ap (λ (r : ℕ). (l.loop-i.n + r) + count_beyond (drop (l.loop-i.i + 1) block)) (sym (told)),
+      one_passed block l.loop-i.n l.loop-i.i (omega arith) l.loop-i.invariant.3 ∙ ap (λ (r : ℕ). (l.loop-i.n + r) + count_beyond (drop (l.loop-i.i + 1) block)) (sym told),
     )
 
 pub returns : goal.returns

@@ -12,7 +12,6 @@ use Rattle.hadamard.proofs.hadamard8x8.Goals as goal
 
 -- 16 rows. Assumes nothing.
 
-
 pub returns-then-refused-ne0 : goal.returns-then-refused-ne0
 returns-then-refused-ne0 c =
     let l = c.args.block.now in
@@ -20,34 +19,37 @@ returns-then-refused-ne0 c =
 
 pub columns-requires : goal.columns-requires
 columns-requires c =
-    let free : transform_fault 8 (.beforec).args.block.now ≡ 0 = sym c.fault-refused.ensures ∙ c.if-refused-ne0.false in
-    let line : LineIn 64 0 1 entry_most (.beforec).args.block.now = let l = (.beforec).args.block.now in
-    let f = unrefused 8 l (freec) in
+    let free : transform_fault 8 c.args.block.now ≡ 0 = sym c.fault-refused.ensures ∙ c.if-refused-ne0.false in
+    let line : LineIn 64 0 1 entry_most c.args.block.now = let l = c.args.block.now in
+    let f = unrefused 8 l free in
     square_line 3 (omega arith) l f.0 entry_most f.1 in
-    columns_in 16 1 (omega arith) entry_most (c).args.block.now (line)
+    columns_in 16 1 (omega arith) entry_most c.args.block.now line
 
 pub rows-requires : goal.rows-requires
 rows-requires c =
-    let free : transform_fault 8 (.beforec).args.block.now ≡ 0 = sym c.fault-refused.ensures ∙ c.if-refused-ne0.false in
-    let line : LineIn 64 0 1 entry_most (.beforec).args.block.now = let l = (.beforec).args.block.now in
-    let f = unrefused 8 l (freec) in
+    let free : transform_fault 8 c.args.block.now ≡ 0 = sym c.fault-refused.ensures ∙ c.if-refused-ne0.false in
+    let line : LineIn 64 0 1 entry_most c.args.block.now = let l = c.args.block.now in
+    let f = unrefused 8 l free in
     square_line 3 (omega arith) l f.0 entry_most f.1 in
     let d = c in
     let e = d in
-    let l = (e).args.block.now in
-    rw d.columns.ensures (length_lined (output 16) 16 1 4 4 l ∙ (unrefused 8 l (free)).0, rows_in 16 1 (omega arith) entry_most l (line))
+    let l = e.args.block.now in
+    rw d.columns.ensures (record { block_len = length_lined (output 16) 16 1 4 4 l ∙ (unrefused 8 l free).0; lines_in = rows_in 16 1 (omega arith) entry_most l line })
 
 pub returns : goal.returns
 returns c =
-    let free : transform_fault 8 (.beforec).args.block.now ≡ 0 = sym c.fault-refused.ensures ∙ c.if-refused-ne0.false in
-    let line : LineIn 64 0 1 entry_most (.beforec).args.block.now = let l = (.beforec).args.block.now in
-    let f = unrefused 8 l (freec) in
+    let free : transform_fault 8 c.args.block.now ≡ 0 = sym c.fault-refused.ensures ∙ c.if-refused-ne0.false in
+    let line : LineIn 64 0 1 entry_most c.args.block.now = let l = c.args.block.now in
+    let f = unrefused 8 l free in
     square_line 3 (omega arith) l f.0 entry_most f.1 in
     let d = c in
     let e = d in
-    let l = (e).args.block.now in
-    let f = free in record { value = sym f; block_after = c.rows.ensures
+    let l = e.args.block.now in
+    let f = free in record {
+      value = sym f;
+      block_after = c.rows.ensures
           ∙ ap (all_lined 4 4 1 16) d.columns.ensures
-          ∙ grid 16 1 (omega arith) entry_most l (line)
+          ∙ grid 16 1 (omega arith) entry_most l line
           ∙ line_square 3 (omega arith) l (unrefused 8 l f).0
-          ∙ lent_written (transform_fault 8 l) (transformed 8 l) l (sym f) }
+          ∙ lent_written (transform_fault 8 l) (transformed 8 l) l (sym f);
+    }

@@ -19,11 +19,11 @@ store-requires c =
     let told : let s = c.args in c.network-y.result ≡ four_of (output 4 (line_entry s.block.now s.at s.step)) = let s = c.args in
     rw c.load.ensures at c.network-y.ensures ∙ loaded_outputs s.block.now s.at s.step in
     let s = c in
-    record { step_in_bounds = s.requires.room 3 (omega arith); four_within = rw (told) (outputs_within s.args.block.now s.args.at s.args.step line_most s.requires) }
+    record { step_in_bounds = s.requires.room 3 (omega arith); four_within = rw told (outputs_within s.args.block.now s.args.at s.args.step line_most s.requires) }
 
 pub returns : goal.returns
 returns c =
     let told : let s = c.args in c.network-y.result ≡ four_of (output 4 (line_entry s.block.now s.at s.step)) = let s = c.args in
     rw c.load.ensures at c.network-y.ensures ∙ loaded_outputs s.block.now s.at s.step in
     let s = c.args in
-    rw (told) at c.store.ensures ∙ line_of_4 s.block.now s.at s.step (output 4)
+    rw told at c.store.ensures ∙ line_of_4 s.block.now s.at s.step (output 4)

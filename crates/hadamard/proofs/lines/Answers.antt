@@ -11,7 +11,6 @@ use Rattle.hadamard.proofs.lines.Goals as goal
 
 -- two lines share a place. Assumes nothing.
 
-
 pub loop-i-init : goal.loop-i-init
 loop-i-init c = let s = c.args in (search rules, none_lined (output 4) 4 s.first s.step s.block.now)
 

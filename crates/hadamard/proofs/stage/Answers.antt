@@ -19,10 +19,10 @@ store-requires c =
     let told : let s = c.args in c.paired-y.result ≡ four_of (stage_of (line_entry s.block.now s.at s.step)) = rw c.load.ensures at c.paired-y.ensures in
     let s = c in
     let f = line_entry s.args.block.now s.args.at s.args.step in
-    record { step_in_bounds = s.requires.room 3 (omega arith); four_within = rw (told) (stage_within stage_most f (four_within stage_most f s.requires.most)) }
+    record { step_in_bounds = s.requires.room 3 (omega arith); four_within = rw told (stage_within stage_most f (four_within stage_most f s.requires.most)) }
 
 pub returns : goal.returns
 returns c =
     let told : let s = c.args in c.paired-y.result ≡ four_of (stage_of (line_entry s.block.now s.at s.step)) = rw c.load.ensures at c.paired-y.ensures in
     let s = c.args in
-    rw (told) at c.store.ensures ∙ line_of_4 s.block.now s.at s.step stage_of
+    rw told at c.store.ensures ∙ line_of_4 s.block.now s.at s.step stage_of

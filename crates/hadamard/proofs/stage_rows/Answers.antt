@@ -10,7 +10,6 @@ use Rattle.hadamard.proofs.stage_rows.Goals as goal
 
 -- two share a place. Assumes nothing.
 
-
 pub loop-i-init : goal.loop-i-init
 loop-i-init c = (search rules, none_lined stage_of 4 4 1 c.args.block.now)
 
