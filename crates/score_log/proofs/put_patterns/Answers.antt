@@ -1,0 +1,42 @@
+-- `log::put_patterns` meets its contract: each float's pattern is written behind the one before it. Assumes nothing.
+use mathlib.Core.Path.{◌≡◌, ap, ◌∙◌}
+use mathlib.Core.List.{List, ◌++◌, append_assoc, append-nil}
+use Prim.Native.Nat.{ℕ, ◌+◌}
+use native.Mathlib.Omega.{arith}
+use lib.Ieee.{binary64, to_bits}
+use lib.ListN.{length, length-append}
+use Rattle.octets.specs.Octets.{bytes_of, overwritten}
+use Rattle.octets.proofs.Laws.{bytes_long, with_here}
+use Rattle.score_log.specs.Records.{pattern_long, pattern_bytes}
+use Rattle.score_log.proofs.Puts.{number_next}
+use Rattle.score_log.proofs.put_patterns.Goals as goal
+
+longer : (bs : List ℕ) (k x : ℕ) → length bs ≡ k → length (bs ++ bytes_of pattern_long x) ≡ k + pattern_long
+longer bs k x e = omega (arith, length-append bs (bytes_of pattern_long x), bytes_long pattern_long x)
+
+pub returns : goal.returns
+unfolding pattern_bytes
+returns c =
+    let k5 = c in
+    let k4 = k5 in
+    let k3 = k4 in
+    let k2 = k3 in
+    let k1 = k2 in
+    let a = k1.args in
+    let s = a.log.now in
+    let at = a.at in
+    let r = a.r in
+    let b1 = bytes_of pattern_long (to_bits binary64 r.inter_cost) in
+    let b2 = b1 ++ bytes_of pattern_long (to_bits binary64 r.imp_block_cost) in
+    let b3 = b2 ++ bytes_of pattern_long (to_bits binary64 r.backward_adjusted_cost) in
+    let b4 = b3 ++ bytes_of pattern_long (to_bits binary64 r.forward_adjusted_cost) in
+    let l1 : length b1 ≡ 8 = bytes_long 8 (to_bits binary64 r.inter_cost) in
+    let l2 : length b2 ≡ 16 = longer b1 8 (to_bits binary64 r.imp_block_cost) l1 in
+    let l3 : length b3 ≡ 24 = longer b2 16 (to_bits binary64 r.backward_adjusted_cost) l2 in
+    let l4 : length b4 ≡ 32 = longer b3 24 (to_bits binary64 r.forward_adjusted_cost) l3 in
+    let e1 = k1.put_f64.ensures ∙ with_here 8 at s (omega arith) (to_bits binary64 r.inter_cost) in
+    let e2 = k2.put_f64-2.ensures ∙ number_next at 8 b1 s k1.put_f64.new.s l1 e1 8 (to_bits binary64 r.imp_block_cost) (omega arith) in
+    let e3 = k3.put_f64-3.ensures ∙ number_next at 16 b2 s k2.put_f64-2.new.s l2 e2 8 (to_bits binary64 r.backward_adjusted_cost) (omega arith) in
+    let e4 = k4.put_f64-4.ensures ∙ number_next at 24 b3 s k3.put_f64-3.new.s l3 e3 8 (to_bits binary64 r.forward_adjusted_cost) (omega arith) in
+    let e5 = k5.put_f64-5.ensures ∙ number_next at 32 b4 s k4.put_f64-4.new.s l4 e4 8 (to_bits binary64 r.threshold) (omega arith) in
+    e5 ∙ ap (λ (bs : List ℕ). overwritten at bs s) (simp (append_assoc, append-nil))
