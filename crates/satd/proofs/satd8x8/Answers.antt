@@ -1,0 +1,34 @@
+-- `satd::satd8x8` meets its contract: differences of samples are within the transform's range, so that it is not refused, and the sum of its
+use native.Mathlib.Omega.{arith}
+use Rattle.sums.specs.Needs.{byte_most}
+use Rattle.satd.proofs.SatdLaws.{first_refused, second_refused, Left, left, left_satd}
+use Rattle.satd.proofs.satd8x8.Goals as goal
+
+-- entries fits. Assumes nothing.
+
+
+pub returns-then-first-ne-SAMPLES : goal.returns-then-first-ne-SAMPLES
+returns-then-first-ne-SAMPLES c = let s = c.args in first_refused s.first.now s.second.now c.if-first-ne-SAMPLES.true
+
+pub returns-then-second-ne-SAMPLES : goal.returns-then-second-ne-SAMPLES
+returns-then-second-ne-SAMPLES c = let s = c.args in second_refused s.first.now s.second.now c.if-first-ne-SAMPLES.false c.if-second-ne-SAMPLES.true
+
+pub total-sum-requires : goal.total-sum-requires
+total-sum-requires c =
+    let changed : let s = c.args in Left s.first.now s.second.now c.hadamard8x8.new.block = left byte_most _ _ (λ i. omega (arith, c.shared_slice_known-1.given i)) (λ i. omega (arith, c.shared_slice_known-2-1.given i))
+    (omega arith) _ _ c.subtract.ensures c.hadamard8x8.ensures.block_after in
+    let x = changed in record { block_len = x.size; all_within = x.within }
+
+pub overflow_add-result : goal.overflow_add-result
+overflow_add-result c =
+    let changed : let s = c.args in Left s.first.now s.second.now c.hadamard8x8.new.block = left byte_most _ _ (λ i. omega (arith, c.shared_slice_known-1.given i)) (λ i. omega (arith, c.shared_slice_known-2-1.given i))
+    (omega arith) _ _ c.subtract.ensures c.hadamard8x8.ensures.block_after in
+    omega (arith, changed.sum_most, c.total-sum.ensures)
+
+pub returns : goal.returns
+returns c =
+    let changed : let s = c.args in Left s.first.now s.second.now c.hadamard8x8.new.block = left byte_most _ _ (λ i. omega (arith, c.shared_slice_known-1.given i)) (λ i. omega (arith, c.shared_slice_known-2-1.given i))
+    (omega arith) _ _ c.subtract.ensures c.hadamard8x8.ensures.block_after in
+    let h = c in
+    let e = h in
+    left_satd changed _ c.total-sum.ensures e.if-first-ne-SAMPLES.false e.if-second-ne-SAMPLES.false
