@@ -30,23 +30,38 @@ fn read_part(rt: &impl Print, part: &[u8], desk: &mut [u64]) -> io::Result<()> {
     Ok(())
 }
 
+// Reads until the room is full or the input is over: how many bytes there are then. One read may bring fewer than are asked for.
+fn read_full(input: &mut impl Read, room: &mut [u8]) -> io::Result<usize> {
+    let mut n = 0;
+    for _ in 0..PART {
+        if room.len() <= n {
+            break;
+        }
+        let more = input.read(&mut room[n..])?;
+        if more == 0 {
+            break;
+        }
+        n += more;
+    }
+    Ok(n)
+}
+
 // The next part of the list; where the input is over, nothing.
 fn read_next(
     rt: &impl Print,
     input: &mut impl Read,
-    room: &mut Vec<u8>,
+    room: &mut [u8],
     desk: &mut [u64],
 ) -> io::Result<()> {
-    room.clear();
-    input.by_ref().take(PART as u64).read_to_end(room)?;
-    read_part(rt, room.as_slice(), desk)
+    let n = read_full(input, room)?;
+    read_part(rt, parts::samples(room, 0, n), desk)
 }
 
 // Part after part.
 fn read_all(
     rt: &impl Print,
     input: &mut impl Read,
-    room: &mut Vec<u8>,
+    room: &mut [u8],
     desk: &mut [u64],
 ) -> io::Result<()> {
     for _ in 0..PARTS {
@@ -55,7 +70,7 @@ fn read_all(
     Ok(())
 }
 
-fn replay(rt: &(impl Input + Print), room: &mut Vec<u8>, desk: &mut [u64]) -> io::Result<()> {
+fn replay(rt: &(impl Input + Print), room: &mut [u8], desk: &mut [u64]) -> io::Result<()> {
     let mut input = rt.reader();
     read_all(rt, &mut input, room, desk)?;
     tally::finish(rt, desk)?;
@@ -63,7 +78,7 @@ fn replay(rt: &(impl Input + Print), room: &mut Vec<u8>, desk: &mut [u64]) -> io
 }
 
 fn main(rt: HostRuntime) -> io::Result<()> {
-    let mut room = Vec::with_capacity(rt.alloc(), PART)?;
+    let mut room = [0u8; PART];
     let mut desk = [0u64; desk::PLACES];
     replay(&rt, &mut room, &mut desk)
 }

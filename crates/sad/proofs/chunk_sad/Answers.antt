@@ -1,5 +1,5 @@
 -- `sad::chunk_sad` meets its contract. After i turns the sum is that of the chunk's first i pairs, which by the bound on a sample fits. Assumes nothing.
-use Prim.Native.Nat.{ℕ, ◌+◌, ◌^◌, ◌-◌}
+use Prim.Native.Nat.{ℕ, ◌+◌, ◌^◌}
 use native.Mathlib.Omega.{arith}
 use borrow.Author.Rules.{rules}
 use Rattle.sums.specs.Needs.{byte_most}

@@ -1,6 +1,6 @@
 -- `sad::sad_plane` meets its contract. After y turns the total is that of the first y rows, which by the planes' largest size fits. Assumes nothing.
 use mathlib.Core.Path.{◌≡◌, ap, ◌∙◌}
-use Prim.Native.Nat.{◌^◌, ◌-◌}
+use Prim.Native.Nat.{◌^◌}
 use native.Mathlib.Omega.{arith}
 use borrow.Author.Rules.{rules}
 use lib.ListN.{length}

@@ -1,7 +1,6 @@
 -- `any_forbidden` meets its contract: the search of the list is the search from i on, as long as nothing before i was found.
 use mathlib.Core.Path.{◌≡◌, refl, sym, ◌∙◌}
 use mathlib.Core.Bool.{true, false}
-use Prim.Native.Nat.{◌-◌}
 use lib.ListN.{get_or}
 use lib.Ieee.{nan}
 use Rattle.score.specs.Costs.{forbidden}

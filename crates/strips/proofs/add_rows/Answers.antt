@@ -1,6 +1,6 @@
 -- `strips::add_rows` meets its contract. After j turns the room, the list and the total are as the first j rows leave them. Assumes nothing.
 use mathlib.Core.Path.{refl, ap, ◌∙◌}
-use Prim.Native.Nat.{ℕ, ◌-◌}
+use Prim.Native.Nat.{ℕ}
 use native.Mathlib.Omega.{arith}
 use Rattle.plane.specs.Planes.{byte}
 use Rattle.strips.specs.Needs.{held}

@@ -1,6 +1,6 @@
 -- `sad::deep::chunk_sad` meets its contract: after i turns the sums and the bits are those of the first i pairs. Assumes nothing.
 use mathlib.Core.Path.{◌≡◌, refl, ap}
-use Prim.Native.Nat.{ℕ, ◌<◌, ◌-◌, ◌/◌, ◌%◌, ◌^◌}
+use Prim.Native.Nat.{ℕ, ◌<◌, ◌/◌, ◌%◌, ◌^◌}
 use native.Mathlib.Omega.{arith}
 use borrow.Author.Rules.{rules}
 use Rattle.plane.proofs.SampleLaws.{reach_none, reach_both, reach_to}

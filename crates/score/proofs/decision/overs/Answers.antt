@@ -2,7 +2,7 @@
 -- Assumes nothing.
 use mathlib.Core.Path.{◌≡◌, sym}
 use mathlib.Core.Bool.{cond}
-use Prim.Native.Nat.{◌+◌, ◌-◌}
+use Prim.Native.Nat.{◌+◌}
 use native.Mathlib.Nat.{zero-add}
 use lib.ListN.{length, take, drop, get_or}
 use lib.Seq.{get_or-take, length-take-le}
@@ -30,8 +30,8 @@ loop-i-preserved c =
     let e : get_or l i no_score ≡ get_or d.entries i no_score = get_or-take _ d.entries i no_score c.loop-i-test.true in
     let k : count_of p (drop i l) ≡ cond c.is_over.result 1 0 + count_of p (drop (i + 1) l) = rw (c.is_over.ensures, ← e) (count_more p l i no_score (omega arith)) in
     elim c.if-is_over.branch [
-      | then-is_over w ↦ omega (arith, c.loop-i.invariant, rw w.if-is_over.true c k)
-      | else-is_over w ↦ omega (arith, c.loop-i.invariant, rw w.if-is_over.false c k)
+      | then-is_over w ↦ omega (arith, c.loop-i.invariant, rw w.if-is_over.true at k)
+      | else-is_over w ↦ omega (arith, c.loop-i.invariant, rw w.if-is_over.false at k)
     ]
 
 pub returns : goal.returns

@@ -2,7 +2,7 @@
 -- Assumes nothing.
 use mathlib.Core.Path.{◌≡◌, refl, sym}
 use mathlib.Core.Bool.{true}
-use Prim.Native.Nat.{◌-◌, min}
+use Prim.Native.Nat.{min}
 use lib.ListN.{length}
 use Rattle.settings.specs.Settings.{room}
 use Rattle.score.specs.Deque.{no_score}
