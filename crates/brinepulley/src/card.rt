@@ -9,8 +9,7 @@ use crate::code;
 use score_log::Record;
 
 // How many whole records there are; the length of the rest is in `torn`.
-#[unsafe(no_mangle)]
-pub extern "C" fn brine_log_scan(log: &[u8], torn: &mut u64) -> i64
+pub fn brine_log_scan(log: &[u8], torn: &mut u64) -> i64
     ensures value { result ≡ coded (scan_of log.now) }
     ensures torn_after { torn.new ≡ lent_after (log_fault log.now) (torn_rest log.now) torn.old }
 {
@@ -18,8 +17,7 @@ pub extern "C" fn brine_log_scan(log: &[u8], torn: &mut u64) -> i64
 }
 
 // The same, and each record in lists that have room for all.
-#[unsafe(no_mangle)]
-pub extern "C" fn brine_log_read(
+pub fn brine_log_read(
     log: &[u8],
     numbers: &mut [u32],
     bits: &mut [u64],
@@ -36,8 +34,7 @@ pub extern "C" fn brine_log_read(
 }
 
 // A record behind the last whole one of the first `used` bytes: the new used length.
-#[unsafe(no_mangle)]
-pub extern "C" fn brine_log_append(
+pub fn brine_log_append(
     log: &mut [u8],
     used: usize,
     number: u32,

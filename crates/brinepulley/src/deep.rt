@@ -12,8 +12,7 @@ use crate::code;
 use plane::Plane;
 
 // A plane reduced by a factor, into a lent plane of the reduced sides: 0.
-#[unsafe(no_mangle)]
-pub extern "C" fn brine_reduce16(
+pub fn brine_reduce16(
     depth: u32,
     factor: usize,
     samples: &[u16],
@@ -46,8 +45,7 @@ pub extern "C" fn brine_reduce16(
 }
 
 // The sum of absolute differences of two planes.
-#[unsafe(no_mangle)]
-pub extern "C" fn brine_plane_difference16(
+pub fn brine_plane_difference16(
     depth: u32,
     first: &[u16],
     width: usize,
@@ -78,8 +76,7 @@ pub extern "C" fn brine_plane_difference16(
 }
 
 // The importance total of two planes, before the division.
-#[unsafe(no_mangle)]
-pub extern "C" fn brine_importance_total16(
+pub fn brine_importance_total16(
     depth: u32,
     first: &[u16],
     width: usize,
@@ -110,8 +107,7 @@ pub extern "C" fn brine_importance_total16(
 }
 
 // The plane difference over width × height: 0, and the quotient in `delta`.
-#[unsafe(no_mangle)]
-pub extern "C" fn brine_delta16(
+pub fn brine_delta16(
     depth: u32,
     first: &[u16],
     width: usize,
@@ -147,8 +143,7 @@ pub extern "C" fn brine_delta16(
 }
 
 // The importance of two planes: 0, and the quotient in `importance`.
-#[unsafe(no_mangle)]
-pub extern "C" fn brine_importance16(
+pub fn brine_importance16(
     depth: u32,
     first: &[u16],
     width: usize,
@@ -184,8 +179,7 @@ pub extern "C" fn brine_importance16(
 }
 
 // The intra costs of a plane: the number of its whole blocks. The work plane and the cost list are written.
-#[unsafe(no_mangle)]
-pub extern "C" fn brine_intra_costs16(
+pub fn brine_intra_costs16(
     depth: u32,
     samples: &[u16],
     width: usize,
@@ -219,8 +213,7 @@ pub extern "C" fn brine_intra_costs16(
 }
 
 // The SATD of two blocks of 64 samples.
-#[unsafe(no_mangle)]
-pub extern "C" fn brine_satd8x8_16(first: &[u16], second: &[u16]) -> i64
+pub fn brine_satd8x8_16(first: &[u16], second: &[u16]) -> i64
     ensures { result ≡ coded (satd_of first.now second.now) }
 {
     code::whole(satd::deep::satd8x8(first, second))

@@ -8,8 +8,7 @@ use crate::code;
 use plane::Plane;
 
 // A plane reduced by a factor, into a lent plane of the reduced sides: 0.
-#[unsafe(no_mangle)]
-pub extern "C" fn brine_reduce(
+pub fn brine_reduce(
     depth: u32,
     factor: usize,
     samples: &[u8],

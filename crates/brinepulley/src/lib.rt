@@ -26,16 +26,14 @@ pub mod frames;
 pub mod sensor;
 
 // The factor that Fast mode scales a frame by, 1 for none.
-#[unsafe(no_mangle)]
-pub extern "C" fn brine_scale_factor(width: usize, height: usize, mode: u32) -> i64
+pub fn brine_scale_factor(width: usize, height: usize, mode: u32) -> i64
     ensures { result ≡ coded (factor_answer width height mode) }
 {
     code::whole(scale::detect_scale_factor(width, height, mode as u64))
 }
 
 // The sum of absolute differences of two planes.
-#[unsafe(no_mangle)]
-pub extern "C" fn brine_plane_difference(
+pub fn brine_plane_difference(
     depth: u32,
     first: &[u8],
     width: usize,
@@ -66,8 +64,7 @@ pub extern "C" fn brine_plane_difference(
 }
 
 // The importance total of two planes, before the division.
-#[unsafe(no_mangle)]
-pub extern "C" fn brine_importance_total(
+pub fn brine_importance_total(
     depth: u32,
     first: &[u8],
     width: usize,
@@ -98,8 +95,7 @@ pub extern "C" fn brine_importance_total(
 }
 
 // The plane difference over width × height: 0, and the quotient in `delta`.
-#[unsafe(no_mangle)]
-pub extern "C" fn brine_delta(
+pub fn brine_delta(
     depth: u32,
     first: &[u8],
     width: usize,
@@ -135,8 +131,7 @@ pub extern "C" fn brine_delta(
 }
 
 // The importance of two planes: 0, and the quotient in `importance`.
-#[unsafe(no_mangle)]
-pub extern "C" fn brine_importance(
+pub fn brine_importance(
     depth: u32,
     first: &[u8],
     width: usize,
@@ -172,8 +167,7 @@ pub extern "C" fn brine_importance(
 }
 
 // The intra costs of a plane: the number of its whole blocks. The work plane and the cost list are written.
-#[unsafe(no_mangle)]
-pub extern "C" fn brine_intra_costs(
+pub fn brine_intra_costs(
     depth: u32,
     samples: &[u8],
     width: usize,
@@ -207,8 +201,7 @@ pub extern "C" fn brine_intra_costs(
 }
 
 // The threshold of the first `count` costs: 0, and the threshold in its place.
-#[unsafe(no_mangle)]
-pub extern "C" fn brine_threshold(costs: &[u32], count: usize, threshold: &mut f64) -> i64
+pub fn brine_threshold(costs: &[u32], count: usize, threshold: &mut f64) -> i64
     ensures value { result ≡ coded (status (threshold_of costs.now count)) }
     ensures threshold_after { threshold.new ≡ held_after (threshold_of costs.now count) threshold.old }
 {
@@ -216,8 +209,7 @@ pub extern "C" fn brine_threshold(costs: &[u32], count: usize, threshold: &mut f
 }
 
 // The transform of four rows of four entries, in their place: 0.
-#[unsafe(no_mangle)]
-pub extern "C" fn brine_hadamard4x4(list: &mut [i32]) -> i64
+pub fn brine_hadamard4x4(list: &mut [i32]) -> i64
     ensures value { result ≡ coded (done (transform_fault 4 list.old)) }
     ensures list_after { list.new ≡ after_transform 4 list.old }
 {
@@ -225,8 +217,7 @@ pub extern "C" fn brine_hadamard4x4(list: &mut [i32]) -> i64
 }
 
 // The transform of eight rows of eight entries, in their place: 0.
-#[unsafe(no_mangle)]
-pub extern "C" fn brine_hadamard8x8(list: &mut [i32]) -> i64
+pub fn brine_hadamard8x8(list: &mut [i32]) -> i64
     ensures value { result ≡ coded (done (transform_fault 8 list.old)) }
     ensures list_after { list.new ≡ after_transform 8 list.old }
 {
@@ -234,8 +225,7 @@ pub extern "C" fn brine_hadamard8x8(list: &mut [i32]) -> i64
 }
 
 // The SATD of two blocks of 64 samples.
-#[unsafe(no_mangle)]
-pub extern "C" fn brine_satd8x8(first: &[u8], second: &[u8]) -> i64
+pub fn brine_satd8x8(first: &[u8], second: &[u8]) -> i64
     ensures { result ≡ coded (satd_of first.now second.now) }
 {
     code::whole(satd::satd8x8(first, second))
@@ -243,8 +233,7 @@ pub extern "C" fn brine_satd8x8(first: &[u8], second: &[u8]) -> i64
 
 // A fresh detector in its lent places: 0, and its first thirteen numbers. It has no entry, so neither a score nor a pair number is
 // written.
-#[unsafe(no_mangle)]
-pub extern "C" fn brine_detector_fresh(
+pub fn brine_detector_fresh(
     width: usize,
     height: usize,
     depth: u32,
@@ -272,8 +261,7 @@ pub extern "C" fn brine_detector_fresh(
 }
 
 // The step of a detector in its lent places: what was decided, by its number. The places are as the decision leaves them.
-#[unsafe(no_mangle)]
-pub extern "C" fn brine_detector_step(
+pub fn brine_detector_step(
     numbers: &mut [u64],
     scores: &mut [f64],
     set_len: usize,

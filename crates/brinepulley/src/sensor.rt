@@ -9,13 +9,7 @@ use plane::Plane;
 use strips::Ended;
 
 // Begins a pair of frames: 0, and the carry.
-#[unsafe(no_mangle)]
-pub extern "C" fn brine_strips_start(
-    depth: u32,
-    width: usize,
-    height: usize,
-    carry: &mut [u64],
-) -> i64
+pub fn brine_strips_start(depth: u32, width: usize, height: usize, carry: &mut [u64]) -> i64
     ensures value { result ≡ coded (start_of depth width height carry.old) }
     ensures carry_after { carry.new ≡ start_after depth width height carry.old }
 {
@@ -23,8 +17,7 @@ pub extern "C" fn brine_strips_start(
 }
 
 // Takes matching strips of both frames: the rows that have come.
-#[unsafe(no_mangle)]
-pub extern "C" fn brine_strips_add(
+pub fn brine_strips_add(
     carry: &mut [u64],
     first: &[u8],
     width: usize,
@@ -58,8 +51,7 @@ pub extern "C" fn brine_strips_add(
 }
 
 // The same of samples in words of 16 bits.
-#[unsafe(no_mangle)]
-pub extern "C" fn brine_strips_add16(
+pub fn brine_strips_add16(
     carry: &mut [u64],
     first: &[u16],
     width: usize,
@@ -93,12 +85,7 @@ pub extern "C" fn brine_strips_add16(
 }
 
 // Ends a pair of frames: the number of whole blocks, and the two totals in their places.
-#[unsafe(no_mangle)]
-pub extern "C" fn brine_strips_end(
-    carry: &[u64],
-    difference: &mut u64,
-    importance_total: &mut u64,
-) -> i64
+pub fn brine_strips_end(carry: &[u64], difference: &mut u64, importance_total: &mut u64) -> i64
     ensures value { result ≡ coded (blocks_given (end_of carry.now)) }
     ensures difference_after { difference.new ≡ difference_after (end_of carry.now) difference.old }
     ensures importance_total_after { importance_total.new ≡ importance_after (end_of carry.now) importance_total.old }

@@ -82,6 +82,15 @@ factor_half =
 
 -- ---- refusals
 
+-- what a reduction over n and m samples that is not refused keeps to: the clauses that the rows of the planes ask, by their names
+abbrev pub Fine : ℕ → ℕ → ℕ → Plane → Plane → Type 0
+Fine f n m p q = record {
+  factor_value : bad_factor f ≡ false;
+  s_value : plane_fault p n ≡ 0;
+  reduced_value : plane_fault q m ≡ 0;
+  q_value : not_reduced f p q ≡ false;
+}
+
 module _ (word : Word) (depth f : ℕ) (p : Plane) (s : List ℕ) (q : Plane) (r : List ℕ) where
   by_sides : sides_fault word depth f p (length s) q (length r) ≡ 0
       → (word_fault word depth ≡ 0) × ((bad_factor f ≡ false) × ((plane_fault p (length s) ≡ 0) × ((plane_fault q (length r) ≡ 0) × (not_reduced f p q ≡ false))))
@@ -94,11 +103,11 @@ module _ (word : Word) (depth f : ℕ) (p : Plane) (s : List ℕ) (q : Plane) (r
       let second = or_none _ _ first.1 in
       (t5.0, (passed 5 _ t6.0, (first.0, (second.0, passed 2 _ second.1))))
 
-  -- what a reduction that is not refused keeps to
-  pub fine : reduce_fault word depth f p s q r ≡ 0
-      → (bad_factor f ≡ false) × ((plane_fault p (length s) ≡ 0) × ((plane_fault q (length r) ≡ 0) × (not_reduced f p q ≡ false)))
+  pub fine : reduce_fault word depth f p s q r ≡ 0 → Fine f (length s) (length r) p q
   unfolding reduce_fault
-  fine e = (by_sides (or_none _ _ e).0).1
+  fine e =
+      let t = (by_sides (or_none _ _ e).0).1 in
+      record { factor_value = t.0; s_value = t.1.0; reduced_value = t.1.1.0; q_value = t.1.1.1 }
 
   -- where the refusal w of the depth was given: one of the sides is the reduction's ..
   module _ (w : ℕ) (d : w ≡ word_fault word depth) where

@@ -14,7 +14,7 @@ use lib.Dec.{ltb, eqb}
 use lib.ListN.{length, get_or, take, drop}
 use Rattle.answer.proofs.Laws.{or_no}
 use Rattle.plane.specs.Needs.{square_from}
-use Rattle.plane.specs.Planes.{plane_fault, max_side}
+use Rattle.plane.specs.Planes.{max_side}
 use Rattle.plane.specs.declared.Plane.{Plane}
 use Rattle.plane.proofs.PlaneLaws.{Lies, lies, row_in}
 use Rattle.plane.proofs.SquareLaws.{square_is, part_at}
@@ -24,9 +24,9 @@ use Rattle.sums.specs.Written.{written}
 use Rattle.sums.proofs.PlaceLaws.{rows_next}
 use Rattle.sums.proofs.WrittenLaws.{written_value}
 use Rattle.sums.proofs.Wrote.{Wrote, wrote_part, wrote_all}
-use Rattle.reduce.specs.Reduce.{square_mean, row_at, column_at, bad_factor, not_reduced, reduced_after}
+use Rattle.reduce.specs.Reduce.{square_mean, row_at, column_at, not_reduced, reduced_after}
 use Rattle.reduce.specs.Needs.{sum_count, RowsIn, mean_from, Half}
-use Rattle.reduce.proofs.ReduceLaws.{factor_small, mean_one}
+use Rattle.reduce.proofs.ReduceLaws.{Fine, factor_small, mean_one}
 
 -- ---- chunks
 
@@ -173,12 +173,12 @@ pub record Turn (f n m : ℕ) (p q : Plane) (y : ℕ) : Type 0 where
   pub start : p.origin + y * f * p.stride ≤ n
   pub few : y * f ≤ max_side * 32
 
-pub plane_turn : (f n m : ℕ) (p q : Plane) (y : ℕ) → (bad_factor f ≡ false) × ((plane_fault p n ≡ 0) × ((plane_fault q m ≡ 0) × (not_reduced f p q ≡ false))) → y < q.height → Turn f n m p q y
+pub plane_turn : (f n m : ℕ) (p q : Plane) (y : ℕ) → Fine f n m p q → y < q.height → Turn f n m p q y
 plane_turn f n m p q y good h =
-    let small = factor_small f good.0 in
-    let l = lies q m good.1.1.0 in
+    let small = factor_small f good.factor_value in
+    let l = lies q m good.reduced_value in
     let rows : y ≤ max_side = omega (arith, l) in
-    let s = squares_in f n p q (lies p n good.1.0) (reduced_sides_lem f p q good.1.1.1) y h in
+    let s = squares_in f n p q (lies p n good.s_value) (reduced_sides_lem f p q good.q_value) y h in
     record {
       lent = row_in q m y l h;
       strides = l.strides;

@@ -11,18 +11,17 @@ use Rattle.settings.specs.Settings.{room}
 use Rattle.score.specs.declared.ScenecutResult.{ScenecutResult}
 use Rattle.score.specs.declared.ScoreDeque.{ScoreDeque}
 use Rattle.score.specs.Deque.{Held, content, held, holding}
-use Rattle.score.specs.contracts.ScenecutResult as score
 use Rattle.score.specs.contracts.ScoreDeque as deque
 
 pub roomy : (d : ScoreDeque) (vs : List Val) → Is deque.the_row d vs → length d.entries ≡ room
-roomy d vs g = sym (length-map d.entries (score.the_field).into) ∙ g.1.1.0.1.0.1
+roomy d vs g = g.1.1.0.1.0.1
 
 -- a deque by its first m slots, which are the list x
 pub held_is : (m : ℕ) (l x : List ScenecutResult) → take m l ≡ x → m ≡ length x → ◌≡◌ {A = Held} (record { entries = take m l; count = m }) (holding x)
-held_is m l x p q = rw p (ap (λ (n : ℕ). ◌·held n) q)
+held_is m l x p q = rw p (ap (λ (n : ℕ). held_of n) q)
   where
-    ◌·held : ℕ → Held
-    ◌·held n = record { entries = x; count = n }
+    held_of : ℕ → Held
+    held_of n = record { entries = x; count = n }
 
 module _ (d : ScoreDeque) (r : length d.entries ≡ room) where
   pub long_min : length (content d) ≡ min d.count room

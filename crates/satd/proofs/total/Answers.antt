@@ -1,4 +1,5 @@
 -- `satd::total` meets its contract. The loop's invariant: the absolute values passed are added, and each is small enough that the sum fits.
+-- Assumes nothing.
 use mathlib.Core.Path.{◌≡◌}
 use Prim.Native.Nat.{ℕ, ◌*◌, ◌-◌, ◌^◌}
 use native.Mathlib.Omega.{arith}
@@ -11,9 +12,6 @@ use Rattle.hadamard.proofs.SignedLaws.{read_at}
 use Rattle.plane.specs.Blocks.{block_side}
 use Rattle.satd.specs.Satd.{block_size}
 use Rattle.satd.proofs.total.Goals as goal
-
--- Assumes nothing.
-
 
 pub loop-i-init : goal.loop-i-init
 loop-i-init c = (search rules, sum_none _)

@@ -1,0 +1,25 @@
+-- `brinepulley::brine_plane_difference` meets its contract: the sum of two planes that are not refused is small. Assumes nothing.
+use mathlib.Core.Path.{ap, ◌∙◌}
+use native.Mathlib.Omega.{arith}
+use borrow.Author.Rules.{sfits_of}
+use mir.Syntax.{w64}
+use mir.Facts.{to_z-of_z}
+use Rattle.plane.specs.declared.Plane.{Plane}
+use Rattle.plane.specs.Planes.{byte}
+use Rattle.sums.specs.Needs.{byte_most}
+use Rattle.brinepulley.specs.Coded.{coded, plane_by}
+use Rattle.brinepulley.proofs.Measures.{difference_small}
+use Rattle.brinepulley.proofs.brine_plane_difference.Goals as goal
+
+pub whole-requires : goal.whole-requires
+whole-requires c =
+    let k = c in
+    let s = k.args in
+    let p : Plane = plane_by s.width s.height s.stride s.origin in
+    let q : Plane = plane_by s.width2 s.height2 s.stride2 s.origin2 in
+    rw c.plane_difference.ensures
+    (difference_small byte_most (omega arith) s.first.now s.second.now
+    (λ i. omega (arith, k.shared_slice_known-1.given i)) (λ i. omega (arith, k.shared_slice_known-2-1.given i)) byte s.depth p q)
+
+pub returns : goal.returns
+returns c = to_z-of_z {w = w64} (sfits_of c.whole.type_inv) ∙ c.whole.ensures ∙ ap coded c.plane_difference.ensures

@@ -1,0 +1,235 @@
+// What C calls: each function of the library under its name in the archive, with the same clauses, and nothing else.
+#![tactic(auto)]
+
+ghost use Rattle.std.specs.Prelude.{◌≡◌};
+ghost use Rattle.hadamard.specs.Transform.{transform_fault, after_transform};
+ghost use Rattle.importance.specs.Importance.{total_of, importance_of};
+ghost use Rattle.intra.specs.Costs.{intra_of, work_of, costs_of};
+ghost use Rattle.intra.specs.Threshold.{threshold_of};
+ghost use Rattle.lent.specs.Lent.{fresh_fault, fresh_numbers, lent_step, numbers_after, scores_after};
+ghost use Rattle.lent.specs.Places.{settings_by};
+ghost use Rattle.plane.specs.Planes.{byte};
+ghost use Rattle.state.specs.State.{call};
+ghost use Rattle.sad.specs.Difference.{difference_of, delta_of};
+ghost use Rattle.satd.specs.Satd.{satd_of};
+ghost use Rattle.scale.specs.Scale.{factor_answer};
+ghost use Rattle.brinepulley.specs.Coded.{coded, done, status, held_after, decided, plane_by};
+
+mod card;
+mod deep;
+mod frames;
+mod sensor;
+
+// The factor that Fast mode scales a frame by, 1 for none.
+#[unsafe(no_mangle)]
+pub extern "C" fn brine_scale_factor(width: usize, height: usize, mode: u32) -> i64
+    ensures { result ≡ coded (factor_answer width height mode) }
+{
+    brinepulley::brine_scale_factor(width, height, mode)
+}
+
+// The sum of absolute differences of two planes.
+#[unsafe(no_mangle)]
+pub extern "C" fn brine_plane_difference(
+    depth: u32,
+    first: &[u8],
+    width: usize,
+    height: usize,
+    stride: usize,
+    origin: usize,
+    second: &[u8],
+    width2: usize,
+    height2: usize,
+    stride2: usize,
+    origin2: usize,
+) -> i64
+    ensures { result ≡ coded (difference_of byte depth (plane_by width height stride origin) first.now (plane_by width2 height2 stride2 origin2) second.now) }
+{
+    brinepulley::brine_plane_difference(
+        depth, first, width, height, stride, origin, second, width2, height2, stride2, origin2,
+    )
+}
+
+// The importance total of two planes, before the division.
+#[unsafe(no_mangle)]
+pub extern "C" fn brine_importance_total(
+    depth: u32,
+    first: &[u8],
+    width: usize,
+    height: usize,
+    stride: usize,
+    origin: usize,
+    second: &[u8],
+    width2: usize,
+    height2: usize,
+    stride2: usize,
+    origin2: usize,
+) -> i64
+    ensures { result ≡ coded (total_of byte depth (plane_by width height stride origin) first.now (plane_by width2 height2 stride2 origin2) second.now) }
+{
+    brinepulley::brine_importance_total(
+        depth, first, width, height, stride, origin, second, width2, height2, stride2, origin2,
+    )
+}
+
+// The plane difference over width × height: 0, and the quotient in `delta`.
+#[unsafe(no_mangle)]
+pub extern "C" fn brine_delta(
+    depth: u32,
+    first: &[u8],
+    width: usize,
+    height: usize,
+    stride: usize,
+    origin: usize,
+    second: &[u8],
+    width2: usize,
+    height2: usize,
+    stride2: usize,
+    origin2: usize,
+    delta: &mut f64,
+) -> i64
+    ensures value { result ≡ coded (status (delta_of byte depth (plane_by width height stride origin) first.now (plane_by width2 height2 stride2 origin2) second.now)) }
+    ensures delta_after { delta.new ≡ held_after (delta_of byte depth (plane_by width height stride origin) first.now (plane_by width2 height2 stride2 origin2) second.now) delta.old }
+{
+    brinepulley::brine_delta(
+        depth, first, width, height, stride, origin, second, width2, height2, stride2, origin2,
+        delta,
+    )
+}
+
+// The importance of two planes: 0, and the quotient in `importance`.
+#[unsafe(no_mangle)]
+pub extern "C" fn brine_importance(
+    depth: u32,
+    first: &[u8],
+    width: usize,
+    height: usize,
+    stride: usize,
+    origin: usize,
+    second: &[u8],
+    width2: usize,
+    height2: usize,
+    stride2: usize,
+    origin2: usize,
+    importance: &mut f64,
+) -> i64
+    ensures value { result ≡ coded (status (importance_of byte depth (plane_by width height stride origin) first.now (plane_by width2 height2 stride2 origin2) second.now)) }
+    ensures importance_after { importance.new ≡ held_after (importance_of byte depth (plane_by width height stride origin) first.now (plane_by width2 height2 stride2 origin2) second.now) importance.old }
+{
+    brinepulley::brine_importance(
+        depth, first, width, height, stride, origin, second, width2, height2, stride2, origin2,
+        importance,
+    )
+}
+
+// The intra costs of a plane: the number of its whole blocks. The work plane and the cost list are written.
+#[unsafe(no_mangle)]
+pub extern "C" fn brine_intra_costs(
+    depth: u32,
+    samples: &[u8],
+    width: usize,
+    height: usize,
+    stride: usize,
+    origin: usize,
+    work: &mut [u8],
+    width2: usize,
+    height2: usize,
+    stride2: usize,
+    origin2: usize,
+    costs: &mut [u32],
+) -> i64
+    ensures value { result ≡ coded (intra_of byte depth (plane_by width height stride origin) samples.now (plane_by width2 height2 stride2 origin2) work.old costs.old) }
+    ensures work_after { work.new ≡ work_of byte depth (plane_by width height stride origin) samples.now (plane_by width2 height2 stride2 origin2) work.old costs.old }
+    ensures costs_after { costs.new ≡ costs_of byte depth (plane_by width height stride origin) samples.now (plane_by width2 height2 stride2 origin2) work.old costs.old }
+{
+    brinepulley::brine_intra_costs(
+        depth, samples, width, height, stride, origin, work, width2, height2, stride2, origin2,
+        costs,
+    )
+}
+
+// The threshold of the first `count` costs: 0, and the threshold in its place.
+#[unsafe(no_mangle)]
+pub extern "C" fn brine_threshold(costs: &[u32], count: usize, threshold: &mut f64) -> i64
+    ensures value { result ≡ coded (status (threshold_of costs.now count)) }
+    ensures threshold_after { threshold.new ≡ held_after (threshold_of costs.now count) threshold.old }
+{
+    brinepulley::brine_threshold(costs, count, threshold)
+}
+
+// The transform of four rows of four entries, in their place: 0.
+#[unsafe(no_mangle)]
+pub extern "C" fn brine_hadamard4x4(list: &mut [i32]) -> i64
+    ensures value { result ≡ coded (done (transform_fault 4 list.old)) }
+    ensures list_after { list.new ≡ after_transform 4 list.old }
+{
+    brinepulley::brine_hadamard4x4(list)
+}
+
+// The transform of eight rows of eight entries, in their place: 0.
+#[unsafe(no_mangle)]
+pub extern "C" fn brine_hadamard8x8(list: &mut [i32]) -> i64
+    ensures value { result ≡ coded (done (transform_fault 8 list.old)) }
+    ensures list_after { list.new ≡ after_transform 8 list.old }
+{
+    brinepulley::brine_hadamard8x8(list)
+}
+
+// The SATD of two blocks of 64 samples.
+#[unsafe(no_mangle)]
+pub extern "C" fn brine_satd8x8(first: &[u8], second: &[u8]) -> i64
+    ensures { result ≡ coded (satd_of first.now second.now) }
+{
+    brinepulley::brine_satd8x8(first, second)
+}
+
+// A fresh detector in its lent places: 0, and its first thirteen numbers. It has no entry, so neither a score nor a pair number is
+// written.
+#[unsafe(no_mangle)]
+pub extern "C" fn brine_detector_fresh(
+    width: usize,
+    height: usize,
+    depth: u32,
+    lookahead: usize,
+    mode: u32,
+    min: u64,
+    max: u64,
+    numbers: &mut [u64],
+    scores: &mut [f64],
+) -> i64
+    ensures value { result ≡ coded (done (fresh_fault numbers.old scores.old (settings_by width height depth lookahead mode min max))) }
+    ensures numbers_after { numbers.new ≡ fresh_numbers numbers.old scores.old (settings_by width height depth lookahead mode min max) }
+    ensures scores_unchanged { scores.new ≡ scores.old }
+{
+    brinepulley::brine_detector_fresh(
+        width, height, depth, lookahead, mode, min, max, numbers, scores,
+    )
+}
+
+// The step of a detector in its lent places: what was decided, by its number. The places are as the decision leaves them.
+#[unsafe(no_mangle)]
+pub extern "C" fn brine_detector_step(
+    numbers: &mut [u64],
+    scores: &mut [f64],
+    set_len: usize,
+    frame: u64,
+    previous_keyframe: u64,
+    inter: &[f64],
+    importance: &[f64],
+    threshold: &[f64],
+) -> i64
+    ensures value { result ≡ coded (decided (lent_step numbers.old scores.old (call set_len frame previous_keyframe inter.now importance.now threshold.now)).answer) }
+    ensures numbers_after { numbers.new ≡ numbers_after (lent_step numbers.old scores.old (call set_len frame previous_keyframe inter.now importance.now threshold.now)) numbers.old }
+    ensures scores_after { scores.new ≡ scores_after (lent_step numbers.old scores.old (call set_len frame previous_keyframe inter.now importance.now threshold.now)) scores.old }
+{
+    brinepulley::brine_detector_step(
+        numbers,
+        scores,
+        set_len,
+        frame,
+        previous_keyframe,
+        inter,
+        importance,
+        threshold,
+    )
+}

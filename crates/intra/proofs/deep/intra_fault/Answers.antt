@@ -1,0 +1,24 @@
+-- `intra::deep::intra_fault` meets its contract: the refusal of shapes and blocks comes first, then 4, and then the samples decide. Assumes nothing.
+use mathlib.Core.Path.{sym, ◌∙◌}
+use native.Mathlib.Omega.{arith}
+use Rattle.plane.specs.Planes.{deep}
+use Rattle.intra.proofs.CostLaws.{planes_refused, no_room, samples_decide, count_fits}
+use Rattle.intra.proofs.deep.intra_fault.Goals as goal
+
+pub returns-then-fault-ne0 : goal.returns-then-fault-ne0
+returns-then-fault-ne0 c = planes_refused deep _ _ _ _ _ _ _ c.blocks_fault-fault.ensures c.if-fault-ne0.true
+
+pub overflow_mul-p : goal.overflow_mul-p
+overflow_mul-p c =
+    let d = c in
+    let s = d.args in
+    omega (arith, count_fits deep s.depth s.p s.s.now s.w s.work.now s.room (sym d.blocks_fault-fault.ensures ∙ d.if-fault-ne0.false))
+
+pub returns-then-room-p : goal.returns-then-room-p
+returns-then-room-p c = let d = c in no_room deep _ _ _ _ _ _ (sym d.if-fault-ne0.false ∙ d.blocks_fault-fault.ensures) c.if-room-p.true
+
+pub returns : goal.returns
+returns c =
+    let d = c in
+    let s = d.args in
+    samples_decide deep s.depth s.p s.s.now s.w s.work.now s.room (sym d.if-fault-ne0.false ∙ d.blocks_fault-fault.ensures) c.if-room-p.false _ c.sample_fault.ensures

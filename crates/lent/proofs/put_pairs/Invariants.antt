@@ -1,0 +1,16 @@
+-- `lent::put_pairs` meets its contract. After i turns the first i entries' pair numbers are placed, and what stands before them stayed.
+use mathlib.Core.Path.{◌≡◌}
+use Prim.Native.Nat.{◌-◌, ◌≤◌}
+use lib.ListN.{length, take, drop}
+use Rattle.lent.specs.Places.{pairs_place, numbers_long, pairs_placed}
+use Rattle.lent.proofs.put_pairs.Given as goal
+
+abbrev pub invariant-loop-i : goal.invariant-loop-i
+invariant-loop-i l =
+    (l.i ≤ l.n)
+    × (length l.numbers ≡ numbers_long)
+    × (take pairs_place l.numbers ≡ take pairs_place l.initial.numbers)
+    × (drop pairs_place l.numbers ≡ pairs_placed (take l.i l.d.entries) (drop pairs_place l.initial.numbers))
+
+abbrev pub decreases-loop-i : goal.decreases-loop-i
+decreases-loop-i l = l.n - l.i

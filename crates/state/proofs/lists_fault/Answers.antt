@@ -1,0 +1,44 @@
+-- `lists_fault` meets its contract: each mode looks at the lists that it reads, in the definition's order.
+use mathlib.Core.Path.{sym, ◌∙◌}
+use borrow.Author.Tests.{ne_eqb}
+use Rattle.state.specs.Refusals.{lists_fault}
+use Rattle.state.proofs.lists_fault.Goals as goal
+
+-- Assumes nothing.
+
+pub returns-then-mode-eq-NONE : goal.returns-then-mode-eq-NONE
+unfolding lists_fault
+returns-then-mode-eq-NONE c = rw c.if-mode-eq-NONE.true
+
+pub returns-then-bad_list : goal.returns-then-bad_list
+unfolding lists_fault
+returns-then-bad_list c =
+    let b = c in
+    rw (ne_eqb _ _ b.if-mode-eq-NONE.false, sym b.bad_list.ensures ∙ c.if-bad_list.true)
+
+pub returns-then-mode-eq-FAST : goal.returns-then-mode-eq-FAST
+unfolding lists_fault
+returns-then-mode-eq-FAST c =
+    let e = c in
+    let b = e in
+    rw (ne_eqb _ _ b.if-mode-eq-NONE.false, sym b.bad_list.ensures ∙ e.if-bad_list.false, c.if-mode-eq-FAST.true)
+
+pub returns-then-i-t : goal.returns-then-i-t
+unfolding lists_fault
+returns-then-i-t c =
+    let t = c in
+    let i = t in
+    let f = i in
+    let e = f in
+    let b = e in
+    rw (ne_eqb _ _ b.if-mode-eq-NONE.false, sym b.bad_list.ensures ∙ e.if-bad_list.false, ne_eqb _ _ f.if-mode-eq-FAST.false, rw (i.bad_list-i.ensures, t.bad_list-t.ensures) at c.if-i-t.true)
+
+pub returns : goal.returns
+unfolding lists_fault
+returns c =
+    let t = c in
+    let i = t in
+    let f = i in
+    let e = f in
+    let b = e in
+    rw (ne_eqb _ _ b.if-mode-eq-NONE.false, sym b.bad_list.ensures ∙ e.if-bad_list.false, ne_eqb _ _ f.if-mode-eq-FAST.false, rw (i.bad_list-i.ensures, t.bad_list-t.ensures) at c.if-i-t.false)

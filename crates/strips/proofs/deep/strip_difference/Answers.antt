@@ -1,0 +1,21 @@
+-- `strips::deep::strip_difference` meets its contract: strips without a row differ in nothing, and others are planes. Assumes nothing.
+use mathlib.Core.Path.{sym, ap, ◌∙◌}
+use Prim.Native.Nat.{ℕ}
+use native.Mathlib.Nat.{pos_of_ne-zero}
+use Rattle.answer.specs.Answer.{answered}
+use Rattle.plane.specs.Planes.{deep}
+use Rattle.plane.proofs.SampleLaws.{pair_fault_is}
+use Rattle.sad.specs.Difference.{plane_sad}
+use Rattle.strips.proofs.RowLaws.{no_rows}
+use Rattle.strips.proofs.deep.strip_difference.Goals as goal
+
+pub returns-then-p-eq0 : goal.returns-then-p-eq0
+returns-then-p-eq0 c = let s = c in no_rows _ _ _ _ _ c.if-p-eq0.true (sym s.requires.height_value ∙ c.if-p-eq0.true)
+
+pub returns : goal.returns
+returns c =
+    let s = c in
+    let g = s.args in
+    let none = s.requires.b_value (pos_of_ne-zero c.if-p-eq0.false) in
+    c.plane_difference.ensures
+    ∙ ap (λ (f : ℕ). answered f (plane_sad g.p g.a.now g.q g.b.now)) (sym (pair_fault_is deep g.depth g.p g.a.now g.q g.b.now (sym none)))
