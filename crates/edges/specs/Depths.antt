@@ -1,8 +1,8 @@
 -- Document 02, L4: its values at each depth, proved as the starred ones are. "The flat prediction is 128 times 2 to the power depth − 8.
 -- Thresholds at 10 bits are 22.5 and 8.75, at 12 bits 27 and 10.5."
-use Rattle.std.specs.Prelude.{List, [], ◌∷◌, true, false, ℕ, pos, Float}
+use Rattle.std.specs.Prelude.{List, [], ◌∷◌, true, false, ℕ, Float}
 use Rattle.std.specs.Float.{binary64}
-use Rattle.std.specs.Float.Ieee.{of_int, round}
+use Rattle.std.specs.Float.Ieee.{round}
 use Rattle.plane.specs.Planes.{Word, byte, deep, depth_fault, word_fault, sample_fault}
 use Rattle.scale.specs.Scale.{mode_standard}
 use Rattle.satd.specs.Satd.{satd_of}

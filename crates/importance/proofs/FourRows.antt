@@ -9,7 +9,7 @@ use borrow.Author.Tests.{eqb-true, leb-false}
 use lib.Dec.{eqb}
 use lib.ListN.{length, get_or}
 use Rattle.plane.specs.Blocks.{block_side, blocks_across, blocks_down, block_row}
-use Rattle.plane.specs.Needs.{block_start, row_from, square_from}
+use Rattle.plane.specs.Needs.{row_from, square_from}
 use Rattle.plane.specs.Planes.{deep, suits, sample_at, rows_large}
 use Rattle.plane.specs.declared.Plane.{Plane}
 use Rattle.plane.proofs.BlockLaws.{block_place, row_starts}

@@ -21,7 +21,7 @@ use Rattle.sums.specs.Any.{any_below}
 use Rattle.sums.specs.Needs.{byte_most}
 use Rattle.sums.proofs.AnyLaws.{any_zero, any_more, any_none, any_ext, any_below_lem, any_at}
 use Rattle.plane.specs.declared.Plane.{Plane}
-use Rattle.plane.specs.Planes.{Word, byte, deep, suits, sample_at, row_of, row_large, rows_large, word_fault, plane_fault, sizes_fault, too_large, sample_fault, shapes_fault, pair_fault}
+use Rattle.plane.specs.Planes.{Word, byte, suits, sample_at, row_of, row_large, rows_large, word_fault, plane_fault, sizes_fault, too_large, sample_fault, shapes_fault, pair_fault}
 use Rattle.plane.proofs.PlaneLaws.{Lies, length_row, row_at, sizes_alone}
 
 -- ---- the bits that numbers have together

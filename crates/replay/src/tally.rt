@@ -1,8 +1,7 @@
 // What was compared, and what failed.
 use crate::desk::get;
 use crate::{desk, parts};
-
-const OUT: i32 = 1;
+use std::io;
 
 // No more failures than these are written out.
 const SHOWN: u64 = 20;
@@ -20,28 +19,31 @@ const NEGATIVE: u64 = 9223372036854775808;
 // The letter of a step, N.
 const STEP: u64 = 78;
 
-fn put(text: &[u8]) {
-    io::write_all(OUT, text);
+fn put(rt: &impl Print, text: &[u8]) -> io::Result<()> {
+    rt.write_all(text)
 }
 
 // A number and a newline.
-fn put_number(n: u64) {
-    io::print_decimal(OUT, n);
-    put(b"\n");
+fn put_number(rt: &impl Print, n: u64) -> io::Result<()> {
+    rt.println(n)
 }
 
-fn put_letter(letter: usize) {
-    put(parts::samples(b"-ABCDEFGHIJKLMNOPQRSTUVWXYZ[-]--", letter % LETTERS, 1));
+fn put_letter(rt: &impl Print, letter: usize) -> io::Result<()> {
+    put(
+        rt,
+        parts::samples(b"-ABCDEFGHIJKLMNOPQRSTUVWXYZ[-]--", letter % LETTERS, 1),
+    )
 }
 
 // A failure is counted. Of the first ones the letter is written out, and how many lines are above.
-fn fails(desk: &mut [u64]) {
+fn fails(rt: &impl Print, desk: &mut [u64]) -> io::Result<()> {
     desk::add(desk, desk::FAILED);
     if get(desk, desk::FAILED) <= SHOWN {
-        put_letter(get(desk, desk::LETTER) as usize);
-        put(b" fails below line ");
-        put_number(get(desk, desk::LINE));
+        put_letter(rt, get(desk, desk::LETTER) as usize)?;
+        put(rt, b" fails below line ")?;
+        put_number(rt, get(desk, desk::LINE))?;
     }
+    Ok(())
 }
 
 fn row(letter: u64, due: u64) -> usize {
@@ -67,50 +69,52 @@ fn count(desk: &mut [u64]) {
 }
 
 // A line is over: whether the answer and the memory are as they should be.
-pub fn verdict(desk: &mut [u64], is_right: bool) {
+pub fn verdict(rt: &impl Print, desk: &mut [u64], is_right: bool) -> io::Result<()> {
     if is_right {
         count(desk);
+        Ok(())
     } else {
-        fails(desk);
+        fails(rt, desk)
     }
 }
 
 // How many passed of a row, if any.
-fn put_row(desk: &[u64], row: usize) {
+fn put_row(rt: &impl Print, desk: &[u64], row: usize) -> io::Result<()> {
     let n = desk::get_at(desk, desk::ROWS, row);
     if n == 0 {
-        return;
+        return Ok(());
     }
     if row < LETTERS {
-        put_letter(row);
+        put_letter(rt, row)?;
     } else {
-        put(b"refusal ");
-        io::print_decimal(OUT, (row - LETTERS) as u64);
+        let refusal = row - LETTERS;
+        print!(rt; "refusal {refusal}")?;
     }
-    put(b": ");
-    put_number(n);
+    put(rt, b": ")?;
+    put_number(rt, n)
 }
 
-fn put_rows(desk: &[u64]) {
+fn put_rows(rt: &impl Print, desk: &[u64]) -> io::Result<()> {
     for row in 0..ROWS {
-        put_row(desk, row);
+        put_row(rt, desk, row)?;
     }
+    Ok(())
 }
 
 // The list is over. One that has no end fails.
-pub fn finish(desk: &mut [u64]) {
+pub fn finish(rt: &impl Print, desk: &mut [u64]) -> io::Result<()> {
     if (get(desk, desk::ENDED) != 1) | (get(desk, desk::OPEN) != 0) {
-        fails(desk);
+        fails(rt, desk)?;
     }
+    Ok(())
 }
 
 // How many of each passed, and the line that says whether all did.
-pub fn summary(desk: &[u64]) {
-    put_rows(desk);
-    put(b"cuts: ");
-    put_number(get(desk, desk::CUTS));
-    io::print_decimal(OUT, get(desk, desk::PASSED));
-    put(b" passed, ");
-    io::print_decimal(OUT, get(desk, desk::FAILED));
-    put(b" failed\n");
+pub fn summary(rt: &impl Print, desk: &[u64]) -> io::Result<()> {
+    put_rows(rt, desk)?;
+    put(rt, b"cuts: ")?;
+    put_number(rt, get(desk, desk::CUTS))?;
+    let passed = get(desk, desk::PASSED);
+    let failed = get(desk, desk::FAILED);
+    println!(rt; "{passed} passed, {failed} failed")
 }

@@ -5,6 +5,7 @@ ghost use Rattle.std.specs.Prelude.{◌<◌};
 
 use crate::desk::{get, put};
 use crate::{calls, desk, memory, tally};
+use std::io;
 
 const NEWLINE: u8 = 10;
 
@@ -106,38 +107,39 @@ fn put_letter(desk: &mut [u64], b: u8) {
 }
 
 // The line is over: the call is made.
-fn end_line(desk: &mut [u64]) {
+fn end_line(rt: &impl Print, desk: &mut [u64]) -> io::Result<()> {
     let letter = (get(desk, desk::LETTER) % 256) as u8;
     let is_right = calls::replay(letter, desk);
-    tally::verdict(desk, is_right);
+    tally::verdict(rt, desk, is_right)?;
     let at = get(desk, desk::AT) as usize;
     memory::settle(desk, at);
     desk::begin(desk);
+    Ok(())
 }
 
 // A byte that ends a word: a newline, a letter or a space.
-fn read_end(desk: &mut [u64], b: u8) {
+fn read_end(rt: &impl Print, desk: &mut [u64], b: u8) -> io::Result<()> {
     end_word(desk);
     if b == NEWLINE {
-        end_line(desk);
-        return;
+        return end_line(rt, desk);
     }
     if b != SPACE {
         put_letter(desk, b);
     }
+    Ok(())
 }
 
 // One byte of the list.
-pub fn read(desk: &mut [u64], b: u8) {
+pub fn read(rt: &impl Print, desk: &mut [u64], b: u8) -> io::Result<()> {
     check(desk, b);
     let d = digit(b);
     if d < 16 {
         put_digit(desk, d);
-        return;
+        return Ok(());
     }
     if b == DOT {
         put_copies(desk);
-        return;
+        return Ok(());
     }
-    read_end(desk, b);
+    read_end(rt, desk, b)
 }

@@ -3,20 +3,18 @@ use mathlib.Core.Bool.{Bool, ◌||◌}
 use mathlib.Core.List.{List}
 use mathlib.Core.Path.{◌≡◌, sym, ap, ◌∙◌}
 use Prim.Native.Nat.{ℕ, ◌+◌, ◌*◌, ◌/◌, ◌%◌, ◌≤◌, ◌<◌, ◌^◌}
-use native.Mathlib.Nat.{mod-lt, div-lt_iff_lt-mul}
 use native.Mathlib.Omega.{arith}
 use lib.Bits.{bit_or}
 use lib.Dec.{leb}
 use lib.ListN.{length, get_or}
-use Rattle.answer.specs.Refusal.{refusal}
 use Rattle.plane.specs.declared.Plane.{Plane}
 use Rattle.plane.specs.Planes.{row_of, too_large}
 use Rattle.plane.proofs.PlaneLaws.{Pair, length_row}
-use Rattle.plane.proofs.SampleLaws.{Reach, reach_or, large_at, large_in, row_large_lem}
+use Rattle.plane.proofs.SampleLaws.{Reach, reach_or, large_in, row_large_lem}
 use Rattle.sums.specs.Any.{any_below}
 use Rattle.sums.specs.Needs.{word_most}
 use Rattle.sums.specs.Sums.{sum_below}
-use Rattle.sums.proofs.AnyLaws.{any_or, any_ext, any_below_lem, any_cut}
+use Rattle.sums.proofs.AnyLaws.{any_or, any_ext, any_cut}
 use Rattle.sums.proofs.SumLaws.{NextSum, next_sum, sum_split}
 use Rattle.sad.specs.Needs.{gap_at, gaps_from, large_from}
 

@@ -15,7 +15,7 @@ use Rattle.intra.specs.Fill.{flat_sample}
 use Rattle.importance.proofs.Refusals.{with_blocks}
 use Rattle.intra.proofs.CostLaws.{fine, has_block}
 use Rattle.plane.specs.Blocks.{block_side, blocks_across, block_count}
-use Rattle.plane.specs.Planes.{Word, suits, bad_side, sample_at, sizes_differ, word_fault, too_large, shapes_fault, pair_fault}
+use Rattle.plane.specs.Planes.{Word, bad_side, sample_at, sizes_differ, word_fault, too_large, shapes_fault, pair_fault}
 use Rattle.plane.specs.declared.Plane.{Plane}
 use Rattle.plane.proofs.BlockLaws.{block_passes}
 use Rattle.plane.proofs.PlaneLaws.{side_passes}

@@ -11,12 +11,11 @@ use Rattle.brinepulley.proofs.brine_intra_costs.Goals as goal
 
 pub whole-requires : goal.whole-requires
 whole-requires c =
-    let k = c in
-    let s = k.args in
+    let s = c.args in
     let p : Plane = plane_by s.width s.height s.stride s.origin in
     let w : Plane = plane_by s.width2 s.height2 s.stride2 s.origin2 in
-    rw k.estimate_intra_costs.ensures.result_value (blocks_small byte s.depth p s.samples.now w s.work.now s.costs.now)
+    rw c.estimate_intra_costs.ensures.result_value (blocks_small byte s.depth p s.samples.now w s.work.now s.costs.now)
 
 pub returns : goal.returns
 returns c =
-    let k = c in record { value = to_z-of_z {w = w64} (sfits_of c.whole.type_inv) ∙ c.whole.ensures ∙ ap coded k.estimate_intra_costs.ensures.result_value; work_after = k.estimate_intra_costs.ensures.work_after; costs_after = k.estimate_intra_costs.ensures.costs_after }
+    record { value = to_z-of_z {w = w64} (sfits_of c.whole.type_inv) ∙ c.whole.ensures ∙ ap coded c.estimate_intra_costs.ensures.result_value; work_after = c.estimate_intra_costs.ensures.work_after; costs_after = c.estimate_intra_costs.ensures.costs_after }

@@ -39,6 +39,7 @@ pub bare-requires : goal.bare-requires
 bare-requires c =
     let given : Call = call c.args.length c.args.n c.args.p c.args.inter.now c.args.importance.now c.args.threshold.now in
     let fine_here : Fine (view c.args.s) given = fine (view c.args.s) given c.requires in
+    -- what is held is the count
     let counted : length (content c.args.s.deque) ≡ c.args.s.deque.count = let d = c.args.s.deque in
     let r : length d.entries ≡ room = state_room c.args.s _ c.well_formed.0 in
     omega (arith, long_min d r, fine_here.state.few) in
@@ -47,10 +48,8 @@ bare-requires c =
 pub returns-then-length-a : goal.returns-then-length-a
 returns-then-length-a c =
     let given : Call = call c.args.length c.args.n c.args.p c.args.inter.now c.args.importance.now c.args.threshold.now in
-    let e = c in
-    let s = e in
-    let k = rw e.lookahead_offset-a.ensures at (le-leb _ _ c.if-length-a.true) in
-    c.bare.ensures ∙ sym (stays (view s.args.s) given k)
+    let k = rw c.lookahead_offset-a.ensures at (le-leb _ _ c.if-length-a.true) in
+    c.bare.ensures ∙ sym (stays (view c.args.s) given k)
 
 pub overflow_sub-distance : goal.overflow_sub-distance
 overflow_sub-distance c =
@@ -70,13 +69,10 @@ bare-requires-then-g-eq-NONE c =
 pub returns-then-g-eq-NONE : goal.returns-then-g-eq-NONE
 returns-then-g-eq-NONE c =
     let given : Call = call c.args.length c.args.n c.args.p c.args.inter.now c.args.importance.now c.args.threshold.now in
-    let n = c in
-    let e = n in
-    let s = e in
-    let v = view s.args.s in
+    let v = view c.args.s in
     let w = given in
-    let k = rw e.lookahead_offset-a.ensures at (lt-leb _ _ e.if-length-a.false) in
-    c.bare-then-g-eq-NONE.ensures ∙ ap (bare_of v w.set_length w.number) c.none_cut-cut.ensures ∙ sym (silent v w k (eq-eqb _ _ n.if-g-eq-NONE.true))
+    let k = rw c.lookahead_offset-a.ensures at (lt-leb _ _ c.if-length-a.false) in
+    c.bare-then-g-eq-NONE.ensures ∙ ap (bare_of v w.set_length w.number) c.none_cut-cut.ensures ∙ sym (silent v w k (eq-eqb _ _ c.if-g-eq-NONE.true))
 
 pub initialized-begun-requires : goal.initialized-begun-requires
 initialized-begun-requires c =
@@ -86,21 +82,20 @@ initialized-begun-requires c =
     let r : length d.entries ≡ room = state_room c.args.s _ c.well_formed.0 in
     omega (arith, long_min d r, fine_here.state.few) in
     let later : lookahead_offset c.args.s.settings < c.args.length = rw c.lookahead_offset-a.ensures at c.if-length-a.false in
-    let covered : Covers (is_fast c.args.s.settings) (c.args.length - 1) c.args.inter.now c.args.importance.now c.args.threshold.now = let s = c in
-    let f = fine_here in
-    let k = s.args.length - 1 in
-    let some-mode : is_none s.args.s.settings ≡ false = ne_eqb _ _ c.if-g-eq-NONE.false in
-    let all : is_fast s.args.s.settings ≡ false → reads_all s.args.s.settings ≡ true = λ e. rw (some-mode, e) in
+    -- the lists that are read are long enough
+    let covered : Covers (is_fast c.args.s.settings) (c.args.length - 1) c.args.inter.now c.args.importance.now c.args.threshold.now = let f = fine_here in
+    let k = c.args.length - 1 in
+    let some-mode : is_none c.args.s.settings ≡ false = ne_eqb _ _ c.if-g-eq-NONE.false in
+    let all : is_fast c.args.s.settings ≡ false → reads_all c.args.s.settings ≡ true = λ e. rw (some-mode, e) in
     record {
       costs = omega (arith, (f.inter (ap not some-mode)).long);
       rest = λ e. (omega (arith, (f.importance (all e)).long), omega (arith, (f.threshold (all e)).long));
     } in
-    let s = c in
     let f = fine_here in record {
       startable = record {
         short = f.short;
         small = f.small;
-        empty = λ z. empty (view s.args.s) given f later (ne_eqb _ _ c.if-g-eq-NONE.false) (counted ∙ z);
+        empty = λ z. empty (view c.args.s) given f later (ne_eqb _ _ c.if-g-eq-NONE.false) (counted ∙ z);
       };
       covers = covered;
     }
@@ -126,9 +121,8 @@ advanced-q-requires c =
 
 pub overflow_add-a : goal.overflow_add-a
 overflow_add-a c =
-    let e = c in
-    let h = lookahead_small e.args.s.settings in
-    record { fits = omega (arith, e.lookahead_offset-a.ensures) }
+    let h = lookahead_small c.args.s.settings in
+    record { fits = omega (arith, c.lookahead_offset-a.ensures) }
 
 pub next_state-state-requires : goal.next_state-state-requires
 next_state-state-requires c = exact_of c.trimmed-kept.result _ c.trimmed-kept.ensures
@@ -136,29 +130,20 @@ next_state-state-requires c = exact_of c.trimmed-kept.result _ c.trimmed-kept.en
 pub returns : goal.returns
 returns c =
     let given : Call = call c.args.length c.args.n c.args.p c.args.inter.now c.args.importance.now c.args.threshold.now in
-    let tr = c in
-    let en = tr in
-    let de = en in
-    let q = de in
-    let b = q in
-    let e2 = b in
-    let e1 = e2 in
-    let a = e1 in
-    let s = e1 in
-    let v = view s.args.s in
+    let v = view c.args.s in
     let w = given in
     let g = v.settings in
-    let k = rw a.lookahead_offset-a.ensures at (lt-leb _ _ e1.if-length-a.false) in
-    let d = q.advanced-q.result.deque in
-    let t : turn q.advanced-q.result ≡ progress_of v w
-    = q.advanced-q.ensures ∙ ap (rule5 g w.set_length w.number (item_of v w)) b.initialized-begun.ensures in
-    let cut : de.decided-cut.result ≡ rule6 g (w.number - w.keyframe) (progress_of v w) = de.decided-cut.ensures ∙ ap (rule6 g (w.number - w.keyframe)) t in
-    let score : en.entry-score.result ≡ get_or (progress_of v w).entries (progress_of v w).offset no_score
-    = en.entry-score.ensures ∙ ap (λ (u : Turn). get_or u.entries u.offset no_score) t in
-    let kept : content tr.trimmed-kept.result ≡ rule7 g (progress_of v w).entries
-    = entries_of_lem tr.trimmed-kept.result _ tr.trimmed-kept.ensures
-    ∙ ap (λ (m : ℕ). trimmed_to (normal_lookahead + m) (content d)) a.lookahead_offset-a.ensures
+    let k = rw c.lookahead_offset-a.ensures at (lt-leb _ _ c.if-length-a.false) in
+    let d = c.advanced-q.result.deque in
+    let t : turn c.advanced-q.result ≡ progress_of v w
+    = c.advanced-q.ensures ∙ ap (rule5 g w.set_length w.number (item_of v w)) c.initialized-begun.ensures in
+    let cut : c.decided-cut.result ≡ rule6 g (w.number - w.keyframe) (progress_of v w) = c.decided-cut.ensures ∙ ap (rule6 g (w.number - w.keyframe)) t in
+    let score : c.entry-score.result ≡ get_or (progress_of v w).entries (progress_of v w).offset no_score
+    = c.entry-score.ensures ∙ ap (λ (u : Turn). get_or u.entries u.offset no_score) t in
+    let kept : content c.trimmed-kept.result ≡ rule7 g (progress_of v w).entries
+    = entries_of_lem c.trimmed-kept.result _ c.trimmed-kept.ensures
+    ∙ ap (λ (m : ℕ). trimmed_to (normal_lookahead + m) (content d)) c.lookahead_offset-a.ensures
     ∙ ap (λ (u : Turn). rule7 g u.entries) t in
-    let next = c.next_state-state.ensures ∙ ap (λ (u : Turn). next_of v w.set_length w.number (content tr.trimmed-kept.result) u.offset) t in
-    scored-is v w (progress_of v w) de.decided-cut.result en.entry-score.result (content tr.trimmed-kept.result) (view c.next_state-state.result) cut score kept next
-    ∙ sym (goes_on v w k (ne_eqb _ _ e2.if-g-eq-NONE.false))
+    let next = c.next_state-state.ensures ∙ ap (λ (u : Turn). next_of v w.set_length w.number (content c.trimmed-kept.result) u.offset) t in
+    scored-is v w (progress_of v w) c.decided-cut.result c.entry-score.result (content c.trimmed-kept.result) (view c.next_state-state.result) cut score kept next
+    ∙ sym (goes_on v w k (ne_eqb _ _ c.if-g-eq-NONE.false))

@@ -1,6 +1,6 @@
 -- `hadamard::columns` meets its contract. The loop's invariant: the columns passed are transformed; those to come are as they were, since no
 use mathlib.Core.Path.{◌≡◌, ap, subst, ◌∙◌}
-use Prim.Native.Nat.{ℕ, ◌*◌, ◌-◌}
+use Prim.Native.Nat.{ℕ, ◌*◌}
 use native.Mathlib.Omega.{arith}
 use borrow.Author.Rules.{rules}
 use lib.ListN.{length}
@@ -17,20 +17,17 @@ loop-i-init c = (search rules, none_lined (output 16) 16 1 4 c.args.block.now)
 
 pub slice_bounds-line16-count : goal.slice_bounds-line16-count
 slice_bounds-line16-count c =
-    let column : LineIn 16 c.loop-i.i 4 entry_most c.loop-i.block = let l = c in
-    let s = l in
-    rw l.loop-i.invariant.1
-    (subst (λ (at : ℕ). LineIn 16 at 4 entry_most (all_lined 16 1 4 l.loop-i.i s.args.block.now)) (omega arith)
-    (next_line (output 16) 16 1 4 4 entry_most s.args.block.now s.requires l.loop-i.i (omega arith))) in
+    -- the next column lies in the list
+    let column : LineIn 16 c.loop-i.i 4 entry_most c.loop-i.block = rw c.loop-i.invariant.1
+    (subst (λ (at : ℕ). LineIn 16 at 4 entry_most (all_lined 16 1 4 c.loop-i.i c.args.block.now)) (omega arith)
+    (next_line (output 16) 16 1 4 4 entry_most c.args.block.now c.requires c.loop-i.i (omega arith))) in
     omega (arith, column.room 0 (omega arith))
 
 pub slice_bounds-line16-start : goal.slice_bounds-line16-start
 slice_bounds-line16-start c =
-    let column : LineIn 16 c.loop-i.i 4 entry_most c.loop-i.block = let l = c in
-    let s = l in
-    rw l.loop-i.invariant.1
-    (subst (λ (at : ℕ). LineIn 16 at 4 entry_most (all_lined 16 1 4 l.loop-i.i s.args.block.now)) (omega arith)
-    (next_line (output 16) 16 1 4 4 entry_most s.args.block.now s.requires l.loop-i.i (omega arith))) in
+    let column : LineIn 16 c.loop-i.i 4 entry_most c.loop-i.block = rw c.loop-i.invariant.1
+    (subst (λ (at : ℕ). LineIn 16 at 4 entry_most (all_lined 16 1 4 c.loop-i.i c.args.block.now)) (omega arith)
+    (next_line (output 16) 16 1 4 4 entry_most c.args.block.now c.requires c.loop-i.i (omega arith))) in
     omega (arith, column.room 0 (omega arith))
 
 pub line16-requires : goal.line16-requires
@@ -50,9 +47,8 @@ loop-i-preserved c =
     rw l.loop-i.invariant.1
     (subst (λ (at : ℕ). LineIn 16 at 4 entry_most (all_lined 16 1 4 l.loop-i.i s.args.block.now)) (omega arith)
     (next_line (output 16) 16 1 4 4 entry_most s.args.block.now s.requires l.loop-i.i (omega arith))) in
-    let b = c in
-    let l = b.loop-i in
-    let first = b.args.block.now in
+    let l = c.loop-i in
+    let first = c.args.block.now in
     let next : l.i ≡ l.i * 1 = omega arith in (
       search rules,
       part_lined 16 l.i 4 l.block (omega (arith, column.room 0 (omega arith))) c.line16.new.block c.line16.ensures

@@ -1,6 +1,6 @@
 -- `hadamard::count_beyond` meets its contract. The loop's invariant: those passed are counted, at most one for each entry passed, and the
 use mathlib.Core.Path.{◌≡◌, sym, ap, ◌∙◌}
-use Prim.Native.Nat.{ℕ, ◌+◌, ◌-◌}
+use Prim.Native.Nat.{ℕ, ◌+◌}
 use native.Mathlib.Omega.{arith}
 use borrow.Author.Rules.{rules}
 use lib.IntN.{pos}
@@ -19,22 +19,19 @@ loop-i-init c = (search rules, search rules, search rules, none_passed _)
 
 pub overflow_add-n : goal.overflow_add-n
 overflow_add-n c =
-    let told : let l = c in c.beyond-n.result ≡ refusal 1 (beyond_most (get_or l.args.block.now l.loop-i.i (pos 0))) = let l = c in
-    rw (read_at l.args.block.now l.loop-i.i c.beyond-arg-1.given) at c.beyond-n.ensures in
-    let l = c in
-    omega (arith, told, one_at_most (beyond_most (get_or l.args.block.now l.loop-i.i (pos 0))), l.requires, l.loop-i.invariant)
+    -- what the call gives, of the list's own entry
+    let told : c.beyond-n.result ≡ refusal 1 (beyond_most (get_or c.args.block.now c.loop-i.i (pos 0))) = rw (read_at c.args.block.now c.loop-i.i c.beyond-arg-1.given) at c.beyond-n.ensures in
+    omega (arith, told, one_at_most (beyond_most (get_or c.args.block.now c.loop-i.i (pos 0))), c.requires, c.loop-i.invariant)
 
 pub loop-i-preserved : goal.loop-i-preserved
 loop-i-preserved c =
-    let told : let l = c in c.beyond-n.result ≡ refusal 1 (beyond_most (get_or l.args.block.now l.loop-i.i (pos 0))) = let l = c in
-    rw (read_at l.args.block.now l.loop-i.i c.beyond-arg-1.given) at c.beyond-n.ensures in
-    let l = c in
-    let block = l.args.block.now in (
+    let told : c.beyond-n.result ≡ refusal 1 (beyond_most (get_or c.args.block.now c.loop-i.i (pos 0))) = rw (read_at c.args.block.now c.loop-i.i c.beyond-arg-1.given) at c.beyond-n.ensures in
+    let block = c.args.block.now in (
       search rules,
       search rules,
-      omega (arith, told, one_at_most (beyond_most (get_or block l.loop-i.i (pos 0))), l.loop-i.invariant),
-      one_passed block l.loop-i.n l.loop-i.i (omega arith) l.loop-i.invariant.3 ∙ ap (λ (r : ℕ). (l.loop-i.n + r) + count_beyond (drop (l.loop-i.i + 1) block)) (sym told),
+      omega (arith, told, one_at_most (beyond_most (get_or block c.loop-i.i (pos 0))), c.loop-i.invariant),
+      one_passed block c.loop-i.n c.loop-i.i (omega arith) c.loop-i.invariant.3 ∙ ap (λ (r : ℕ). (c.loop-i.n + r) + count_beyond (drop (c.loop-i.i + 1) block)) (sym told),
     )
 
 pub returns : goal.returns
-returns c = let l = c in all_passed _ l.loop-i.n l.loop-i.i (omega arith) l.loop-i.invariant.3
+returns c = all_passed _ c.loop-i.n c.loop-i.i (omega arith) c.loop-i.invariant.3

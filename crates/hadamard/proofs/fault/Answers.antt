@@ -8,12 +8,10 @@ returns-then-block-n c = wrong_length_lem c.args.n c.args.block.now c.if-block-n
 
 pub returns-then-count_beyond-ne0 : goal.returns-then-count_beyond-ne0
 returns-then-count_beyond-ne0 c =
-    let e = c in
-    let l = e.args.block.now in
-    too_large e.args.n l e.if-block-n.false (some_counted l (λ z. c.if-count_beyond-ne0.true (c.count_beyond.ensures ∙ z)))
+    let l = c.args.block.now in
+    too_large c.args.n l c.if-block-n.false (some_counted l (λ z. c.if-count_beyond-ne0.true (c.count_beyond.ensures ∙ z)))
 
 pub returns : goal.returns
 returns c =
-    let e = c in
-    let l = e.args.block.now in
-    (accepted e.args.n l e.if-block-n.false (none_counted l (sym c.count_beyond.ensures ∙ c.if-count_beyond-ne0.false))).0
+    let l = c.args.block.now in
+    (accepted c.args.n l c.if-block-n.false (none_counted l (sym c.count_beyond.ensures ∙ c.if-count_beyond-ne0.false))).0

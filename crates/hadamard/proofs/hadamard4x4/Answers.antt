@@ -22,7 +22,6 @@ line16-requires c =
 pub returns : goal.returns
 returns c =
     let free : transform_fault 4 c.args.block.now ≡ 0 = sym c.fault-refused.ensures ∙ c.if-refused-ne0.false in
-    let e = c in
-    let l = e.args.block.now in
+    let l = c.args.block.now in
     let f = free in
     record { value = sym f; block_after = c.line16.ensures ∙ line_square 2 (omega arith) l (unrefused 4 l f).0 ∙ lent_written (transform_fault 4 l) (transformed 4 l) l (sym f) }

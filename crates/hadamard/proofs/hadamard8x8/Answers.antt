@@ -31,10 +31,8 @@ rows-requires c =
     let line : LineIn 64 0 1 entry_most c.args.block.now = let l = c.args.block.now in
     let f = unrefused 8 l free in
     square_line 3 (omega arith) l f.0 entry_most f.1 in
-    let d = c in
-    let e = d in
-    let l = e.args.block.now in
-    rw d.columns.ensures (record { block_len = length_lined (output 16) 16 1 4 4 l ∙ (unrefused 8 l free).0; lines_in = rows_in 16 1 (omega arith) entry_most l line })
+    let l = c.args.block.now in
+    rw c.columns.ensures (record { block_len = length_lined (output 16) 16 1 4 4 l ∙ (unrefused 8 l free).0; lines_in = rows_in 16 1 (omega arith) entry_most l line })
 
 pub returns : goal.returns
 returns c =
@@ -42,13 +40,11 @@ returns c =
     let line : LineIn 64 0 1 entry_most c.args.block.now = let l = c.args.block.now in
     let f = unrefused 8 l free in
     square_line 3 (omega arith) l f.0 entry_most f.1 in
-    let d = c in
-    let e = d in
-    let l = e.args.block.now in
+    let l = c.args.block.now in
     let f = free in record {
       value = sym f;
       block_after = c.rows.ensures
-          ∙ ap (all_lined 4 4 1 16) d.columns.ensures
+          ∙ ap (all_lined 4 4 1 16) c.columns.ensures
           ∙ grid 16 1 (omega arith) entry_most l line
           ∙ line_square 3 (omega arith) l (unrefused 8 l f).0
           ∙ lent_written (transform_fault 8 l) (transformed 8 l) l (sym f);

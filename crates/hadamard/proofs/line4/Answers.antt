@@ -11,11 +11,11 @@ load-requires c = c.requires.room 3 (omega arith)
 
 pub network-y-requires : goal.network-y-requires
 network-y-requires c =
-    let s = c in
-    rw c.load.ensures (four_within line_most (line_entry s.args.block.now s.args.at s.args.step) s.requires.most)
+    rw c.load.ensures (four_within line_most (line_entry c.args.block.now c.args.at c.args.step) c.requires.most)
 
 pub store-requires : goal.store-requires
 store-requires c =
+    -- the outputs are those of the line's own entries
     let told : let s = c.args in c.network-y.result ≡ four_of (output 4 (line_entry s.block.now s.at s.step)) = let s = c.args in
     rw c.load.ensures at c.network-y.ensures ∙ loaded_outputs s.block.now s.at s.step in
     let s = c in

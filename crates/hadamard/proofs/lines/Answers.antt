@@ -1,6 +1,6 @@
 -- `hadamard::lines` meets its contract. The loop's invariant: the lines passed are transformed; those to come are as they were, since no
 use mathlib.Core.Path.{ap, ◌∙◌}
-use Prim.Native.Nat.{ℕ, ◌*◌, ◌-◌}
+use Prim.Native.Nat.{ℕ, ◌*◌}
 use native.Mathlib.Omega.{arith}
 use borrow.Author.Rules.{rules}
 use lib.ListN.{length}
@@ -16,22 +16,17 @@ loop-i-init c = let s = c.args in (search rules, none_lined (output 4) 4 s.first
 
 pub overflow_mul-i : goal.overflow_mul-i
 overflow_mul-i c =
-    let l = c in
-    let s = l in
-    omega (arith, s.requires.room l.loop-i.i 0 (omega arith) (omega arith), s.well_formed.0.0)
+    omega (arith, c.requires.room c.loop-i.i 0 (omega arith) (omega arith), c.well_formed.0.0)
 
 pub line4-requires : goal.line4-requires
 line4-requires c =
-    let l = c in
-    let s = l in
-    rw l.loop-i.invariant.1 (next_line (output 4) 4 s.args.first s.args.step 4 line_most s.args.block.now s.requires l.loop-i.i (omega arith))
+    rw c.loop-i.invariant.1 (next_line (output 4) 4 c.args.first c.args.step 4 line_most c.args.block.now c.requires c.loop-i.i (omega arith))
 
 pub loop-i-preserved : goal.loop-i-preserved
 loop-i-preserved c =
-    let l = c in
-    let s = l.args in (
+    let s = c.args in (
       search rules,
-      c.line4.ensures ∙ ap (lined 4 (l.loop-i.i * s.first) s.step) l.loop-i.invariant.1 ∙ more_lined (output 4) 4 s.first s.step l.loop-i.i s.block.now,
+      c.line4.ensures ∙ ap (lined 4 (c.loop-i.i * s.first) s.step) c.loop-i.invariant.1 ∙ more_lined (output 4) 4 s.first s.step c.loop-i.i s.block.now,
     )
 
 pub shape_of-block : goal.shape_of-block

@@ -6,8 +6,7 @@ use Rattle.hadamard.proofs.network.Goals as goal
 
 pub paired-requires-2 : goal.paired-requires-2
 paired-requires-2 c =
-    let s = c in
-    rw c.paired.ensures (stage_within line_most (nth s.args.x) s.requires)
+    rw c.paired.ensures (stage_within line_most (nth c.args.x) c.requires)
 
 pub returns : goal.returns
 returns c = rw c.paired.ensures at c.paired-2.ensures ∙ two_stages (nth c.args.x)

@@ -7,16 +7,12 @@ use Rattle.hadamard.proofs.StageLaws.{stage_in, rows_twice}
 use Rattle.hadamard.proofs.rows.Goals as goal
 
 pub stage_rows-requires : goal.stage_rows-requires
-stage_rows-requires c = let s = c in lines_more 4 16 4 1 line_most stage_most s.args.block.now (omega arith) s.requires.lines_in
+stage_rows-requires c = lines_more 4 16 4 1 line_most stage_most c.args.block.now (omega arith) c.requires.lines_in
 
 pub stage_rows-requires-2 : goal.stage_rows-requires-2
 stage_rows-requires-2 c =
-    let d = c in
-    let s = d in
-    rw d.stage_rows.ensures (stage_in 16 line_most s.args.block.now s.requires.block_len s.requires.lines_in)
+    rw c.stage_rows.ensures (stage_in 16 line_most c.args.block.now c.requires.block_len c.requires.lines_in)
 
 pub returns : goal.returns
 returns c =
-    let d = c in
-    let s = d in
-    c.stage_rows-2.ensures ∙ ap (all_lined_by stage_of 4 4 1 16) d.stage_rows.ensures ∙ rows_twice 16 line_most s.args.block.now s.requires.block_len s.requires.lines_in
+    c.stage_rows-2.ensures ∙ ap (all_lined_by stage_of 4 4 1 16) c.stage_rows.ensures ∙ rows_twice 16 line_most c.args.block.now c.requires.block_len c.requires.lines_in

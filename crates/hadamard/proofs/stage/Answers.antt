@@ -11,11 +11,11 @@ load-requires c = c.requires.room 3 (omega arith)
 
 pub paired-y-requires : goal.paired-y-requires
 paired-y-requires c =
-    let s = c in
-    rw c.load.ensures (four_within stage_most (line_entry s.args.block.now s.args.at s.args.step) s.requires.most)
+    rw c.load.ensures (four_within stage_most (line_entry c.args.block.now c.args.at c.args.step) c.requires.most)
 
 pub store-requires : goal.store-requires
 store-requires c =
+    -- the stage is that of the line's own entries
     let told : let s = c.args in c.paired-y.result ≡ four_of (stage_of (line_entry s.block.now s.at s.step)) = rw c.load.ensures at c.paired-y.ensures in
     let s = c in
     let f = line_entry s.args.block.now s.args.at s.args.step in

@@ -1,6 +1,6 @@
 -- `hadamard::stage_rows` meets its contract. The loop's invariant: the rows passed have had their stage; those to come are as they were, since no
 use mathlib.Core.Path.{ap, ◌∙◌}
-use Prim.Native.Nat.{ℕ, ◌*◌, ◌-◌}
+use Prim.Native.Nat.{ℕ, ◌*◌}
 use native.Mathlib.Omega.{arith}
 use borrow.Author.Rules.{rules}
 use lib.ListN.{length}
@@ -15,16 +15,13 @@ loop-i-init c = (search rules, none_lined stage_of 4 4 1 c.args.block.now)
 
 pub stage-requires : goal.stage-requires
 stage-requires c =
-    let l = c in
-    let s = l in
-    rw l.loop-i.invariant.1 (next_line stage_of 4 4 1 16 stage_most s.args.block.now s.requires l.loop-i.i (omega arith))
+    rw c.loop-i.invariant.1 (next_line stage_of 4 4 1 16 stage_most c.args.block.now c.requires c.loop-i.i (omega arith))
 
 pub loop-i-preserved : goal.loop-i-preserved
-loop-i-preserved c =
-    let l = c in (
-      search rules,
-      c.stage.ensures ∙ ap (lined_by stage_of 4 (l.loop-i.i * 4) 1) l.loop-i.invariant.1 ∙ more_lined stage_of 4 4 1 l.loop-i.i l.args.block.now,
-    )
+loop-i-preserved c = (
+  search rules,
+  c.stage.ensures ∙ ap (lined_by stage_of 4 (c.loop-i.i * 4) 1) c.loop-i.invariant.1 ∙ more_lined stage_of 4 4 1 c.loop-i.i c.args.block.now,
+)
 
 pub shape_of-block : goal.shape_of-block
 shape_of-block c = ap length c.loop-i.invariant.1 ∙ length_lined stage_of 4 4 1 c.loop-i.i c.args.block.now

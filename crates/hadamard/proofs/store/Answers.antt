@@ -14,5 +14,4 @@ bounds-block-at-3 c = simp length-set (omega arith)
 pub returns : goal.returns
 unfolding stores
 returns c =
-    let s = c in
-    simp (read_back s.args.y.x0 (omega (arith, s.requires.four_within.m0)), read_back s.args.y.x1 (omega (arith, s.requires.four_within.m1)), read_back s.args.y.x2 (omega (arith, s.requires.four_within.m2)), read_back s.args.y.x3 (omega (arith, s.requires.four_within.m3)))
+    simp (read_back c.args.y.x0 (omega (arith, c.requires.four_within.m0)), read_back c.args.y.x1 (omega (arith, c.requires.four_within.m1)), read_back c.args.y.x2 (omega (arith, c.requires.four_within.m2)), read_back c.args.y.x3 (omega (arith, c.requires.four_within.m3)))

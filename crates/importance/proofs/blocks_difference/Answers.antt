@@ -1,5 +1,4 @@
 -- `importance::blocks_difference` meets its contract. After x turns the total is that of the first x blocks, and a block that is whole lies within the samples. Assumes nothing.
-use Prim.Native.Nat.{◌-◌}
 use native.Mathlib.Omega.{arith}
 use borrow.Author.Rules.{rules}
 use Rattle.sums.specs.Needs.{byte_most}
@@ -12,12 +11,12 @@ loop-x-init c = (search rules, sum_none _)
 
 pub overflow_mul-x : goal.overflow_mul-x
 overflow_mul-x c =
-    let row : let s = c.args in BlocksRow byte_most s.p s.a.now s.q s.b.now s.y c.block_row-start.result c.block_row-start2.result = let k = c in
-    record {
+    -- the row of blocks, once it is known where it starts
+    let row : let s = c.args in BlocksRow byte_most s.p s.a.now s.q s.b.now s.y c.block_row-start.result c.block_row-start2.result = record {
       small = omega arith;
-      most = λ i. omega (arith, k.shared_slice_known-1.given i);
-      most2 = λ i. omega (arith, k.shared_slice_known-2-1.given i);
-      given = (k.requires.b_value, k.requires.y_bound);
+      most = λ i. omega (arith, c.shared_slice_known-1.given i);
+      most2 = λ i. omega (arith, c.shared_slice_known-2-1.given i);
+      given = (c.requires.b_value, c.requires.y_bound);
       starts = c.block_row-start.ensures;
       starts2 = c.block_row-start2.ensures;
     } in
@@ -26,12 +25,11 @@ overflow_mul-x c =
 
 pub overflow_add-start : goal.overflow_add-start
 overflow_add-start c =
-    let row : let s = c.args in BlocksRow byte_most s.p s.a.now s.q s.b.now s.y c.block_row-start.result c.block_row-start2.result = let k = c in
-    record {
+    let row : let s = c.args in BlocksRow byte_most s.p s.a.now s.q s.b.now s.y c.block_row-start.result c.block_row-start2.result = record {
       small = omega arith;
-      most = λ i. omega (arith, k.shared_slice_known-1.given i);
-      most2 = λ i. omega (arith, k.shared_slice_known-2-1.given i);
-      given = (k.requires.b_value, k.requires.y_bound);
+      most = λ i. omega (arith, c.shared_slice_known-1.given i);
+      most2 = λ i. omega (arith, c.shared_slice_known-2-1.given i);
+      given = (c.requires.b_value, c.requires.y_bound);
       starts = c.block_row-start.ensures;
       starts2 = c.block_row-start2.ensures;
     } in
@@ -40,12 +38,11 @@ overflow_add-start c =
 
 pub sum_8x8_block-org-requires : goal.sum_8x8_block-org-requires
 sum_8x8_block-org-requires c =
-    let row : let s = c.args in BlocksRow byte_most s.p s.a.now s.q s.b.now s.y c.block_row-start.result c.block_row-start2.result = let k = c in
-    record {
+    let row : let s = c.args in BlocksRow byte_most s.p s.a.now s.q s.b.now s.y c.block_row-start.result c.block_row-start2.result = record {
       small = omega arith;
-      most = λ i. omega (arith, k.shared_slice_known-1.given i);
-      most2 = λ i. omega (arith, k.shared_slice_known-2-1.given i);
-      given = (k.requires.b_value, k.requires.y_bound);
+      most = λ i. omega (arith, c.shared_slice_known-1.given i);
+      most2 = λ i. omega (arith, c.shared_slice_known-2-1.given i);
+      given = (c.requires.b_value, c.requires.y_bound);
       starts = c.block_row-start.ensures;
       starts2 = c.block_row-start2.ensures;
     } in
@@ -54,12 +51,11 @@ sum_8x8_block-org-requires c =
 
 pub overflow_mul-x-in-loop-x : goal.overflow_mul-x-in-loop-x
 overflow_mul-x-in-loop-x c =
-    let row : let s = c.args in BlocksRow byte_most s.p s.a.now s.q s.b.now s.y c.block_row-start.result c.block_row-start2.result = let k = c in
-    record {
+    let row : let s = c.args in BlocksRow byte_most s.p s.a.now s.q s.b.now s.y c.block_row-start.result c.block_row-start2.result = record {
       small = omega arith;
-      most = λ i. omega (arith, k.shared_slice_known-1.given i);
-      most2 = λ i. omega (arith, k.shared_slice_known-2-1.given i);
-      given = (k.requires.b_value, k.requires.y_bound);
+      most = λ i. omega (arith, c.shared_slice_known-1.given i);
+      most2 = λ i. omega (arith, c.shared_slice_known-2-1.given i);
+      given = (c.requires.b_value, c.requires.y_bound);
       starts = c.block_row-start.ensures;
       starts2 = c.block_row-start2.ensures;
     } in
@@ -68,12 +64,11 @@ overflow_mul-x-in-loop-x c =
 
 pub overflow_add-start2 : goal.overflow_add-start2
 overflow_add-start2 c =
-    let row : let s = c.args in BlocksRow byte_most s.p s.a.now s.q s.b.now s.y c.block_row-start.result c.block_row-start2.result = let k = c in
-    record {
+    let row : let s = c.args in BlocksRow byte_most s.p s.a.now s.q s.b.now s.y c.block_row-start.result c.block_row-start2.result = record {
       small = omega arith;
-      most = λ i. omega (arith, k.shared_slice_known-1.given i);
-      most2 = λ i. omega (arith, k.shared_slice_known-2-1.given i);
-      given = (k.requires.b_value, k.requires.y_bound);
+      most = λ i. omega (arith, c.shared_slice_known-1.given i);
+      most2 = λ i. omega (arith, c.shared_slice_known-2-1.given i);
+      given = (c.requires.b_value, c.requires.y_bound);
       starts = c.block_row-start.ensures;
       starts2 = c.block_row-start2.ensures;
     } in
@@ -82,12 +77,11 @@ overflow_add-start2 c =
 
 pub sum_8x8_block-other-requires : goal.sum_8x8_block-other-requires
 sum_8x8_block-other-requires c =
-    let row : let s = c.args in BlocksRow byte_most s.p s.a.now s.q s.b.now s.y c.block_row-start.result c.block_row-start2.result = let k = c in
-    record {
+    let row : let s = c.args in BlocksRow byte_most s.p s.a.now s.q s.b.now s.y c.block_row-start.result c.block_row-start2.result = record {
       small = omega arith;
-      most = λ i. omega (arith, k.shared_slice_known-1.given i);
-      most2 = λ i. omega (arith, k.shared_slice_known-2-1.given i);
-      given = (k.requires.b_value, k.requires.y_bound);
+      most = λ i. omega (arith, c.shared_slice_known-1.given i);
+      most2 = λ i. omega (arith, c.shared_slice_known-2-1.given i);
+      given = (c.requires.b_value, c.requires.y_bound);
       starts = c.block_row-start.ensures;
       starts2 = c.block_row-start2.ensures;
     } in
@@ -96,12 +90,11 @@ sum_8x8_block-other-requires c =
 
 pub means_apart-requires : goal.means_apart-requires
 means_apart-requires c =
-    let row : let s = c.args in BlocksRow byte_most s.p s.a.now s.q s.b.now s.y c.block_row-start.result c.block_row-start2.result = let k = c in
-    record {
+    let row : let s = c.args in BlocksRow byte_most s.p s.a.now s.q s.b.now s.y c.block_row-start.result c.block_row-start2.result = record {
       small = omega arith;
-      most = λ i. omega (arith, k.shared_slice_known-1.given i);
-      most2 = λ i. omega (arith, k.shared_slice_known-2-1.given i);
-      given = (k.requires.b_value, k.requires.y_bound);
+      most = λ i. omega (arith, c.shared_slice_known-1.given i);
+      most2 = λ i. omega (arith, c.shared_slice_known-2-1.given i);
+      given = (c.requires.b_value, c.requires.y_bound);
       starts = c.block_row-start.ensures;
       starts2 = c.block_row-start2.ensures;
     } in
@@ -109,46 +102,39 @@ means_apart-requires c =
 
 pub overflow_add-total : goal.overflow_add-total
 overflow_add-total c =
-    let row : let s = c.args in BlocksRow byte_most s.p s.a.now s.q s.b.now s.y c.block_row-start.result c.block_row-start2.result = let k = c in
-    record {
+    let row : let s = c.args in BlocksRow byte_most s.p s.a.now s.q s.b.now s.y c.block_row-start.result c.block_row-start2.result = record {
       small = omega arith;
-      most = λ i. omega (arith, k.shared_slice_known-1.given i);
-      most2 = λ i. omega (arith, k.shared_slice_known-2-1.given i);
-      given = (k.requires.b_value, k.requires.y_bound);
+      most = λ i. omega (arith, c.shared_slice_known-1.given i);
+      most2 = λ i. omega (arith, c.shared_slice_known-2-1.given i);
+      given = (c.requires.b_value, c.requires.y_bound);
       starts = c.block_row-start.ensures;
       starts2 = c.block_row-start2.ensures;
     } in
-    let turn : let l = c in GapTurn row l.loop-x.total c.means_apart.result l.loop-x.x = let o = c in
-    let l = o in
-    gap_turn row l.loop-x.x l.loop-x.total o.sum_8x8_block-org.result c.sum_8x8_block-other.result c.means_apart.result
-    (omega arith) l.loop-x.invariant.1 o.sum_8x8_block-org.ensures c.sum_8x8_block-other.ensures c.means_apart.ensures in
+    let turn : GapTurn row c.loop-x.total c.means_apart.result c.loop-x.x = gap_turn row c.loop-x.x c.loop-x.total c.sum_8x8_block-org.result c.sum_8x8_block-other.result c.means_apart.result
+    (omega arith) c.loop-x.invariant.1 c.sum_8x8_block-org.ensures c.sum_8x8_block-other.ensures c.means_apart.ensures in
     record { fits = turn.1 }
 
 pub loop-x-preserved : goal.loop-x-preserved
 loop-x-preserved c =
-    let row : let s = c.args in BlocksRow byte_most s.p s.a.now s.q s.b.now s.y c.block_row-start.result c.block_row-start2.result = let k = c in
-    record {
+    let row : let s = c.args in BlocksRow byte_most s.p s.a.now s.q s.b.now s.y c.block_row-start.result c.block_row-start2.result = record {
       small = omega arith;
-      most = λ i. omega (arith, k.shared_slice_known-1.given i);
-      most2 = λ i. omega (arith, k.shared_slice_known-2-1.given i);
-      given = (k.requires.b_value, k.requires.y_bound);
+      most = λ i. omega (arith, c.shared_slice_known-1.given i);
+      most2 = λ i. omega (arith, c.shared_slice_known-2-1.given i);
+      given = (c.requires.b_value, c.requires.y_bound);
       starts = c.block_row-start.ensures;
       starts2 = c.block_row-start2.ensures;
     } in
-    let turn : let l = c in GapTurn row l.loop-x.total c.means_apart.result l.loop-x.x = let o = c in
-    let l = o in
-    gap_turn row l.loop-x.x l.loop-x.total o.sum_8x8_block-org.result c.sum_8x8_block-other.result c.means_apart.result
-    (omega arith) l.loop-x.invariant.1 o.sum_8x8_block-org.ensures c.sum_8x8_block-other.ensures c.means_apart.ensures in
+    let turn : GapTurn row c.loop-x.total c.means_apart.result c.loop-x.x = gap_turn row c.loop-x.x c.loop-x.total c.sum_8x8_block-org.result c.sum_8x8_block-other.result c.means_apart.result
+    (omega arith) c.loop-x.invariant.1 c.sum_8x8_block-org.ensures c.sum_8x8_block-other.ensures c.means_apart.ensures in
     (search rules, turn.0)
 
 pub returns : goal.returns
 returns c =
-    let row : let s = c.args in BlocksRow byte_most s.p s.a.now s.q s.b.now s.y c.block_row-start.result c.block_row-start2.result = let k = c in
-    record {
+    let row : let s = c.args in BlocksRow byte_most s.p s.a.now s.q s.b.now s.y c.block_row-start.result c.block_row-start2.result = record {
       small = omega arith;
-      most = λ i. omega (arith, k.shared_slice_known-1.given i);
-      most2 = λ i. omega (arith, k.shared_slice_known-2-1.given i);
-      given = (k.requires.b_value, k.requires.y_bound);
+      most = λ i. omega (arith, c.shared_slice_known-1.given i);
+      most2 = λ i. omega (arith, c.shared_slice_known-2-1.given i);
+      given = (c.requires.b_value, c.requires.y_bound);
       starts = c.block_row-start.ensures;
       starts2 = c.block_row-start2.ensures;
     } in

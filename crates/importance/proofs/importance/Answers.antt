@@ -15,6 +15,7 @@ returns-then-fault-ne0 c = answer_refused _ _ _ c.importance_fault-fault.ensures
 
 pub all_differences-total-requires : goal.all_differences-total-requires
 all_differences-total-requires c =
+    -- past the test the planes are not refused
     let sizes : let s = c.args in sizes_fault s.p (length s.a.now) s.q (length s.b.now) ≡ 0 = one_size _ _ _ _ _ _ (sym c.importance_fault-fault.ensures ∙ c.if-fault-ne0.false) in
     sizes
 
@@ -25,7 +26,6 @@ overflow_mul-count c =
 
 pub returns : goal.returns
 returns c =
-    let d = c in
-    let p = d.args.p in
-    answer_given _ _ _ (sym d.if-fault-ne0.false ∙ d.importance_fault-fault.ensures)
-    (c.quotient.ensures ∙ ap (λ (total : ℕ). quotient_of total (block_count p)) d.all_differences-total.ensures)
+    let p = c.args.p in
+    answer_given _ _ _ (sym c.if-fault-ne0.false ∙ c.importance_fault-fault.ensures)
+    (c.quotient.ensures ∙ ap (λ (total : ℕ). quotient_of total (block_count p)) c.all_differences-total.ensures)

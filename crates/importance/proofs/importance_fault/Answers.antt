@@ -5,5 +5,4 @@ use Rattle.importance.proofs.importance_fault.Goals as goal
 
 pub returns : goal.returns
 returns c =
-    let k = c in
-    bytes_refused _ _ _ _ _ (λ i. omega (arith, k.shared_slice_known-1.given i)) (λ i. omega (arith, k.shared_slice_known-2-1.given i)) _ c.blocks_fault.ensures
+    bytes_refused _ _ _ _ _ (λ i. omega (arith, c.shared_slice_known-1.given i)) (λ i. omega (arith, c.shared_slice_known-2-1.given i)) _ c.blocks_fault.ensures

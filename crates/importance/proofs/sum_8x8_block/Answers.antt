@@ -1,5 +1,5 @@
 -- `importance::sum_8x8_block` meets its contract. After j turns the sum is that of the first j rows, each a part of the samples. Assumes nothing.
-use Prim.Native.Nat.{◌^◌, ◌-◌}
+use Prim.Native.Nat.{◌^◌}
 use native.Mathlib.Omega.{arith}
 use borrow.Author.Rules.{rules}
 use lib.ListN.{length-take, length-drop}
@@ -39,19 +39,17 @@ sum_row-sum-requires c =
 pub overflow_add-sum : goal.overflow_add-sum
 overflow_add-sum c =
     let inside : let s = c.args in RowIn s.s.now s.start s.stride c.loop-j.j = c.requires c.loop-j.j (omega arith) in
-    let turn : let l = c in let s = l.args in SquareTurn (2 ^ 16) s.s.now s.start s.stride l.loop-j.sum c.sum_row-sum.result l.loop-j.j = let l = c in
-    let s = l.args in
-    square_turn byte_most (2 ^ 16) (omega arith) s.s.now (λ i. omega (arith, l.shared_slice_known-1.given i)) s.start s.stride
-    l.loop-j.sum c.sum_row-sum.result l.loop-j.j l.loop-j.invariant (omega arith) inside c.sum_row-sum.ensures in
+    let turn : let s = c.args in SquareTurn (2 ^ 16) s.s.now s.start s.stride c.loop-j.sum c.sum_row-sum.result c.loop-j.j = let s = c.args in
+    square_turn byte_most (2 ^ 16) (omega arith) s.s.now (λ i. omega (arith, c.shared_slice_known-1.given i)) s.start s.stride
+    c.loop-j.sum c.sum_row-sum.result c.loop-j.j c.loop-j.invariant (omega arith) inside c.sum_row-sum.ensures in
     record { fits = turn.1 }
 
 pub loop-j-preserved : goal.loop-j-preserved
 loop-j-preserved c =
     let inside : let s = c.args in RowIn s.s.now s.start s.stride c.loop-j.j = c.requires c.loop-j.j (omega arith) in
-    let turn : let l = c in let s = l.args in SquareTurn (2 ^ 16) s.s.now s.start s.stride l.loop-j.sum c.sum_row-sum.result l.loop-j.j = let l = c in
-    let s = l.args in
-    square_turn byte_most (2 ^ 16) (omega arith) s.s.now (λ i. omega (arith, l.shared_slice_known-1.given i)) s.start s.stride
-    l.loop-j.sum c.sum_row-sum.result l.loop-j.j l.loop-j.invariant (omega arith) inside c.sum_row-sum.ensures in
+    let turn : let s = c.args in SquareTurn (2 ^ 16) s.s.now s.start s.stride c.loop-j.sum c.sum_row-sum.result c.loop-j.j = let s = c.args in
+    square_turn byte_most (2 ^ 16) (omega arith) s.s.now (λ i. omega (arith, c.shared_slice_known-1.given i)) s.start s.stride
+    c.loop-j.sum c.sum_row-sum.result c.loop-j.j c.loop-j.invariant (omega arith) inside c.sum_row-sum.ensures in
     turn.0
 
 pub returns : goal.returns

@@ -1,5 +1,5 @@
 -- `importance::sum_row` meets its contract. After i turns the sum is that of the first i samples. Assumes nothing.
-use Prim.Native.Nat.{◌^◌, ◌-◌}
+use Prim.Native.Nat.{◌^◌}
 use native.Mathlib.Omega.{arith}
 use borrow.Author.Rules.{rules}
 use Rattle.sums.specs.Needs.{byte_most}
@@ -15,14 +15,12 @@ overflow_cast-sum c = omega (arith, c.shared_slice_known-1.given c.loop-i.i)
 
 pub overflow_add-sum : goal.overflow_add-sum
 overflow_add-sum c =
-    let turn : let l = c in RowTurn (2 ^ 16) l.args.s.now l.loop-i.sum l.loop-i.i = let l = c in
-    row_turn byte_most (2 ^ 16) (omega arith) l.args.s.now (λ i. omega (arith, c.shared_slice_known-1.given i)) l.loop-i.sum l.loop-i.i l.loop-i.invariant (omega arith) in
+    let turn : RowTurn (2 ^ 16) c.args.s.now c.loop-i.sum c.loop-i.i = row_turn byte_most (2 ^ 16) (omega arith) c.args.s.now (λ i. omega (arith, c.shared_slice_known-1.given i)) c.loop-i.sum c.loop-i.i c.loop-i.invariant (omega arith) in
     record { fits = turn.1 }
 
 pub loop-i-preserved : goal.loop-i-preserved
 loop-i-preserved c =
-    let turn : let l = c in RowTurn (2 ^ 16) l.args.s.now l.loop-i.sum l.loop-i.i = let l = c in
-    row_turn byte_most (2 ^ 16) (omega arith) l.args.s.now (λ i. omega (arith, c.shared_slice_known-1.given i)) l.loop-i.sum l.loop-i.i l.loop-i.invariant (omega arith) in
+    let turn : RowTurn (2 ^ 16) c.args.s.now c.loop-i.sum c.loop-i.i = row_turn byte_most (2 ^ 16) (omega arith) c.args.s.now (λ i. omega (arith, c.shared_slice_known-1.given i)) c.loop-i.sum c.loop-i.i c.loop-i.invariant (omega arith) in
     turn.0
 
 pub returns : goal.returns

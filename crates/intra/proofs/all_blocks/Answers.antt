@@ -1,5 +1,5 @@
 -- `intra::all_blocks` meets its contract. After y turns the costs of the first y rows of blocks stand in row order. Assumes nothing.
-use Prim.Native.Nat.{ℕ, ◌*◌, ◌-◌}
+use Prim.Native.Nat.{ℕ, ◌*◌}
 use native.Mathlib.Omega.{arith}
 use borrow.Author.Rules.{rules}
 use lib.Dec.{ltb}
@@ -12,14 +12,12 @@ pub loop-y-init : goal.loop-y-init
 loop-y-init c = (search rules, search rules, wrote_none _ _ _ (fronts_none (blocks_across c.args.p)))
 
 pub blocks_row-requires : goal.blocks_row-requires
-blocks_row-requires c = let s = c in record { s_value = s.requires.s_value; p_in_bounds = let room = s.requires.p_in_bounds in let l = c.loop-y.invariant.2.same in omega arith; y_bound = omega arith }
+blocks_row-requires c = record { s_value = c.requires.s_value; p_in_bounds = let room = c.requires.p_in_bounds in let l = c.loop-y.invariant.2.same in omega arith; y_bound = omega arith }
 
 pub loop-y-preserved : goal.loop-y-preserved
 loop-y-preserved c =
-    let r = c in
-    let d = r in
-    let l = d.loop-y in
-    (search rules, search rules, wrote_more l.invariant.2 _ _ r.blocks_row.ensures (fronts_next (blocks_across d.args.p) l.y))
+    let l = c.loop-y in
+    (search rules, search rules, wrote_more l.invariant.2 _ _ c.blocks_row.ensures (fronts_next (blocks_across c.args.p) l.y))
 
 pub shape_of-costs : goal.shape_of-costs
 shape_of-costs c = c.loop-y.invariant.2.same

@@ -1,6 +1,6 @@
 -- `intra::all_costs` meets its contract. After y turns the first y rows of blocks are filled, and their costs stand in row order. Assumes nothing.
 use mathlib.Core.Path.{ap, ◌∙◌}
-use Prim.Native.Nat.{ℕ, ◌*◌, ◌-◌}
+use Prim.Native.Nat.{ℕ, ◌*◌}
 use native.Mathlib.Omega.{arith}
 use borrow.Author.Rules.{rules}
 use lib.Dec.{ltb}
@@ -18,20 +18,16 @@ loop-y-init c = (search rules, search rules, wrote_none _ _ _ (bands_none _ _ bl
 
 pub costs_row-requires : goal.costs_row-requires
 costs_row-requires c =
-    let d = c in
-    let s = d in
-    let l = d.loop-y in record { work_value = ap (sizes_fault s.args.p (length s.args.s.now) s.args.w) l.invariant.2.same ∙ s.requires.work_value; p_in_bounds = let room = s.requires.p_in_bounds in omega arith; y_bound = omega arith }
+    let l = c.loop-y in record { work_value = ap (sizes_fault c.args.p (length c.args.s.now) c.args.w) l.invariant.2.same ∙ c.requires.work_value; p_in_bounds = let room = c.requires.p_in_bounds in omega arith; y_bound = omega arith }
 
 pub loop-y-preserved : goal.loop-y-preserved
 loop-y-preserved c =
-    let r = c in
-    let d = r in
-    let l = d.loop-y in
-    let s = d.args in (
+    let l = c.loop-y in
+    let s = c.args in (
       search rules,
       search rules,
-      wrote_more l.invariant.2 _ _ r.costs_row.ensures.work_after (bands_next s.w.origin s.w.stride block_side l.y (blocks_across s.w * block_side)),
-      wrote_more l.invariant.3 _ _ r.costs_row.ensures.costs_after (fronts_next (blocks_across s.p) l.y),
+      wrote_more l.invariant.2 _ _ c.costs_row.ensures.work_after (bands_next s.w.origin s.w.stride block_side l.y (blocks_across s.w * block_side)),
+      wrote_more l.invariant.3 _ _ c.costs_row.ensures.costs_after (fronts_next (blocks_across s.p) l.y),
     )
 
 pub shape_of-work : goal.shape_of-work
@@ -42,7 +38,6 @@ shape_of-costs c = c.loop-y.invariant.3.same
 
 pub returns : goal.returns
 returns c =
-    let at = c in
-    let s = at.args in
-    let p = pair _ _ _ _ at.requires.work_value in
+    let s = c.args in
+    let p = pair _ _ _ _ c.requires.work_value in
     let l = c.loop-y in record { work_after = wrote_all (λ (n : ℕ). in_rows s.w.origin s.w.stride (n * block_side) (blocks_across s.w * block_side)) l.y (blocks_down s.w) l.invariant.2 (omega arith); costs_after = wrote_all (λ (n k : ℕ). ltb k (n * blocks_across s.p)) l.y (blocks_down s.p) l.invariant.3 (omega arith) }

@@ -9,6 +9,7 @@ use Rattle.intra.proofs.block_cost.Goals as goal
 
 pub returns-in_default : goal.returns-in_default
 returns-in_default c =
+    -- the SATD's answer is the cost
     let answer : let s = c.args in gives (square_cost s.flat s.s.now s.start s.stride) ≡ whole_answer c.satd8x8.result = let s = c.args in
     cost_given s.flat s.start s.stride s.s.now _ c.satd8x8.result c.load_block.ensures c.satd8x8.ensures in
     absurd (never_refused c.satd8x8.result answer _ c.in_default.is)
@@ -18,12 +19,11 @@ pub overflow_cast-result : goal.overflow_cast-result
 overflow_cast-result c =
     let answer : let s = c.args in gives (square_cost s.flat s.s.now s.start s.stride) ≡ whole_answer c.satd8x8.result = let s = c.args in
     cost_given s.flat s.start s.stride s.s.now _ c.satd8x8.result c.load_block.ensures c.satd8x8.ensures in
-    let k = c in
-    let s = k.args in
+    let s = c.args in
     record {
       fits =
           omega
-          (arith, number_given c.satd8x8.result answer _ c.in-Number.is, cost_most_lem byte_most s.flat s.start s.stride s.s.now (omega arith) (λ i. omega (arith, k.shared_slice_known-1.given i)));
+          (arith, number_given c.satd8x8.result answer _ c.in-Number.is, cost_most_lem byte_most s.flat s.start s.stride s.s.now (omega arith) (λ i. omega (arith, c.shared_slice_known-1.given i)));
     }
 
 pub returns : goal.returns

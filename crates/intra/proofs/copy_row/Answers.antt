@@ -1,6 +1,6 @@
 -- `intra::copy_row` meets its contract. After x turns the first x samples are copied and every other is as it was. Assumes nothing.
 use mathlib.Core.Path.{refl}
-use Prim.Native.Nat.{ℕ, ◌-◌}
+use Prim.Native.Nat.{ℕ}
 use native.Mathlib.Omega.{arith}
 use borrow.Author.Rules.{rules}
 use lib.Dec.{ltb}
@@ -18,7 +18,7 @@ pub bounds-to-x : goal.bounds-to-x
 bounds-to-x c = let p = c.requires in omega arith
 
 pub loop-x-preserved : goal.loop-x-preserved
-loop-x-preserved c = let l = c in (search rules, front_more l.loop-x.invariant.1 _ (omega (arith, l.requires)) refl)
+loop-x-preserved c = (search rules, front_more c.loop-x.invariant.1 _ (omega (arith, c.requires)) refl)
 
 pub shape_of-to : goal.shape_of-to
 shape_of-to c = c.loop-x.invariant.1.same

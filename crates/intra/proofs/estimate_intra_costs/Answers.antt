@@ -18,6 +18,7 @@ returns-then-fault-ne0 c =
 
 pub all_costs-requires : goal.all_costs-requires
 all_costs-requires c =
+    -- past the test nothing is refused
     let none : let s = c.args in 0 ≡ intra_fault byte s.depth s.p s.s.now s.w s.work.now (length s.costs.now) = sym c.if-fault-ne0.false ∙ c.intra_fault-fault.ensures in
     let passed = fine byte _ _ _ _ _ _ (sym none) in
     record { work_value = passed.0; p_in_bounds = passed.1 }
@@ -25,15 +26,13 @@ all_costs-requires c =
 pub overflow_mul-result : goal.overflow_mul-result
 overflow_mul-result c =
     let none : let s = c.args in 0 ≡ intra_fault byte s.depth s.p s.s.now s.w s.work.now (length s.costs.now) = sym c.if-fault-ne0.false ∙ c.intra_fault-fault.ensures in
-    let d = c in
-    let s = d.args in
+    let s = c.args in
     omega (arith, blocks_most byte s.depth s.p s.s.now s.w s.work.now (length s.costs.now) (sym none))
 
 pub returns : goal.returns
 returns c =
     let none : let s = c.args in 0 ≡ intra_fault byte s.depth s.p s.s.now s.w s.work.now (length s.costs.now) = sym c.if-fault-ne0.false ∙ c.intra_fault-fault.ensures in
+    -- and the flat sample is that of 8 bits
     let flat : flat_sample c.args.depth ≡ 128 = ap flat_sample (eqb-true _ 8 (suits_word byte _ _ _ _ _ _ (sym none))) in
-    let a = c in
-    let d = a in
-    let s = d.args in
-    let e = none in record { result_value = answer_given _ _ _ e refl; work_after = (a.all_costs.ensures.work_after ∙ ap (λ (f : ℕ). work_after f s.w s.work.now) (sym flat)) ∙ lent_written _ _ _ e; costs_after = (a.all_costs.ensures.costs_after ∙ ap (λ (f : ℕ). costs_after f s.p s.s.now s.costs.now) (sym flat)) ∙ lent_written _ _ _ e }
+    let s = c.args in
+    let e = none in record { result_value = answer_given _ _ _ e refl; work_after = (c.all_costs.ensures.work_after ∙ ap (λ (f : ℕ). work_after f s.w s.work.now) (sym flat)) ∙ lent_written _ _ _ e; costs_after = (c.all_costs.ensures.costs_after ∙ ap (λ (f : ℕ). costs_after f s.p s.s.now s.costs.now) (sym flat)) ∙ lent_written _ _ _ e }

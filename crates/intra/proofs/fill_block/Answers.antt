@@ -1,6 +1,6 @@
 -- `intra::fill_block` meets its contract. After y turns y rows are filled, each lent as a part from the block's column onward. Assumes nothing.
 use mathlib.Core.Path.{refl}
-use Prim.Native.Nat.{ℕ, ◌+◌, ◌*◌, ◌≤◌, ◌-◌}
+use Prim.Native.Nat.{ℕ, ◌+◌, ◌*◌, ◌≤◌}
 use native.Mathlib.Omega.{arith}
 use borrow.Author.Rules.{rules}
 use lib.ListN.{length, length-take, length-drop}
@@ -15,6 +15,7 @@ loop-y-init c = (search rules, wrote_none _ _ _ (rows_none _ _ _))
 
 pub overflow_mul-i : goal.overflow_mul-i
 overflow_mul-i c =
+    -- row y lies within the samples
     let inside : let s = c.args in s.start + c.loop-y.y * s.stride + block_side ≤ length s.work.now = c.requires.rows c.loop-y.y (omega arith) in
     omega (arith, inside)
 
@@ -41,11 +42,10 @@ fill_row-requires c =
 pub loop-y-preserved : goal.loop-y-preserved
 loop-y-preserved c =
     let inside : let s = c.args in s.start + c.loop-y.y * s.stride + block_side ≤ length s.work.now = c.requires.rows c.loop-y.y (omega arith) in
-    let l = c in
-    let s = l.args in (
+    let s = c.args in (
       search rules,
-      wrote_part l.loop-y.invariant.1 _ block_side (λ (k : ℕ). s.flat) inside (λ k _. refl) _ c.fill_row.ensures
-          (rows_next s.start s.stride l.loop-y.y block_side),
+      wrote_part c.loop-y.invariant.1 _ block_side (λ (k : ℕ). s.flat) inside (λ k _. refl) _ c.fill_row.ensures
+          (rows_next s.start s.stride c.loop-y.y block_side),
     )
 
 pub shape_of-work : goal.shape_of-work

@@ -10,15 +10,12 @@ returns-then-fault-ne0 c = planes_refused byte _ _ _ _ _ _ _ c.blocks_fault-faul
 
 pub overflow_mul-p : goal.overflow_mul-p
 overflow_mul-p c =
-    let d = c in
-    let s = d.args in
-    omega (arith, count_fits byte s.depth s.p s.s.now s.w s.work.now s.room (sym d.blocks_fault-fault.ensures ∙ d.if-fault-ne0.false))
+    let s = c.args in
+    omega (arith, count_fits byte s.depth s.p s.s.now s.w s.work.now s.room (sym c.blocks_fault-fault.ensures ∙ c.if-fault-ne0.false))
 
 pub returns-then-room-p : goal.returns-then-room-p
-returns-then-room-p c = let d = c in no_room byte _ _ _ _ _ _ (sym d.if-fault-ne0.false ∙ d.blocks_fault-fault.ensures) c.if-room-p.true
+returns-then-room-p c = no_room byte _ _ _ _ _ _ (sym c.if-fault-ne0.false ∙ c.blocks_fault-fault.ensures) c.if-room-p.true
 
 pub returns : goal.returns
 returns c =
-    let d = c in
-    let k = d in
-    bytes_enough _ _ _ _ _ _ (λ i. omega (arith, k.shared_slice_known-1.given i)) (sym d.if-fault-ne0.false ∙ d.blocks_fault-fault.ensures) c.if-room-p.false
+    bytes_enough _ _ _ _ _ _ (λ i. omega (arith, c.shared_slice_known-1.given i)) (sym c.if-fault-ne0.false ∙ c.blocks_fault-fault.ensures) c.if-room-p.false

@@ -18,6 +18,7 @@ loop-j-init c = (search rules, front_none _ _)
 
 pub overflow_mul-i : goal.overflow_mul-i
 overflow_mul-i c =
+    -- row j lies within the samples, and its eight places within the block
     let inside : let s = c.args in (s.start + c.loop-j.j * s.stride + 8 ≤ length s.s.now) × (c.loop-j.j * 8 + 8 ≤ length s.block.now) = (c.requires.square_in.rows c.loop-j.j (omega arith), omega (arith, c.requires.block_len)) in
     omega (arith, inside)
 
@@ -55,14 +56,13 @@ copy_row-requires c =
 pub loop-j-preserved : goal.loop-j-preserved
 loop-j-preserved c =
     let inside : let s = c.args in (s.start + c.loop-j.j * s.stride + 8 ≤ length s.s.now) × (c.loop-j.j * 8 + 8 ≤ length s.block.now) = (c.requires.square_in.rows c.loop-j.j (omega arith), omega (arith, c.requires.block_len)) in
-    let l = c in
-    let s = l.args in
+    let s = c.args in
     let h = inside in
-    let i = s.start + l.loop-j.j * s.stride in (
+    let i = s.start + c.loop-j.j * s.stride in (
       search rules,
-      wrote_part l.loop-j.invariant.1 _ block_side (λ (k : ℕ). get_or (take (length s.s.now - i) (drop i s.s.now)) k 0) h.1
-          (λ k k<. row_of_square s.s.now s.start s.stride l.loop-j.j k h.0 k<) _ c.copy_row.ensures
-          (fronts_next block_side l.loop-j.j),
+      wrote_part c.loop-j.invariant.1 _ block_side (λ (k : ℕ). get_or (take (length s.s.now - i) (drop i s.s.now)) k 0) h.1
+          (λ k k<. row_of_square s.s.now s.start s.stride c.loop-j.j k h.0 k<) _ c.copy_row.ensures
+          (fronts_next block_side c.loop-j.j),
     )
 
 pub shape_of-block : goal.shape_of-block
@@ -70,6 +70,5 @@ shape_of-block c = c.loop-j.invariant.1.same
 
 pub returns : goal.returns
 returns c =
-    let s = c in
     wrote_all (λ (n k : ℕ). ltb k (n * block_side)) c.loop-j.j block_side c.loop-j.invariant.1 (omega arith)
-    ∙ prefix_all block_size _ s.args.block.now s.requires.block_len
+    ∙ prefix_all block_size _ c.args.block.now c.requires.block_len

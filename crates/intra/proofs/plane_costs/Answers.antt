@@ -19,22 +19,21 @@ returns-then-fault-ne0 c =
 
 pub all_blocks-requires : goal.all_blocks-requires
 all_blocks-requires c =
+    -- past the test nothing is refused
     let none : let s = c.args in 0 ≡ intra_fault byte s.depth s.p s.s.now s.p s.s.now (length s.costs.now) = sym c.if-fault-ne0.false ∙ c.intra_fault-fault.ensures in
     let f = fine byte _ _ _ _ _ _ (sym none) in record { s_value = sym (sizes_alone _ _) ∙ f.0; p_in_bounds = f.1 }
 
 pub overflow_mul-result : goal.overflow_mul-result
 overflow_mul-result c =
     let none : let s = c.args in 0 ≡ intra_fault byte s.depth s.p s.s.now s.p s.s.now (length s.costs.now) = sym c.if-fault-ne0.false ∙ c.intra_fault-fault.ensures in
-    let d = c in
-    let s = d.args in
+    let s = c.args in
     omega (arith, blocks_most byte s.depth s.p s.s.now s.p s.s.now (length s.costs.now) (sym none))
 
 pub returns : goal.returns
 returns c =
     let none : let s = c.args in 0 ≡ intra_fault byte s.depth s.p s.s.now s.p s.s.now (length s.costs.now) = sym c.if-fault-ne0.false ∙ c.intra_fault-fault.ensures in
+    -- and the flat sample is that of 8 bits
     let flat : flat_sample c.args.depth ≡ 128 = ap flat_sample (eqb-true _ 8 (suits_word byte _ _ _ _ _ _ (sym none))) in
-    let a = c in
-    let d = a in
-    let s = d.args in
+    let s = c.args in
     let e = alone byte _ _ _ _ 0 none in
-    record { result_value = answer_given _ _ _ e refl; costs_after = (a.all_blocks.ensures ∙ ap (λ (f : ℕ). costs_after f s.p s.s.now s.costs.now) (sym flat)) ∙ lent_written _ _ _ e }
+    record { result_value = answer_given _ _ _ e refl; costs_after = (c.all_blocks.ensures ∙ ap (λ (f : ℕ). costs_after f s.p s.s.now s.costs.now) (sym flat)) ∙ lent_written _ _ _ e }

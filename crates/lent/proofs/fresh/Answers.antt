@@ -30,25 +30,20 @@ pub returns-then-fault-ne0 : goal.returns-then-fault-ne0
 returns-then-fault-ne0 c =
     let state : is_state c.args.numbers.now c.args.scores.now ≡ true = both c.args.numbers.now c.args.scores.now c.if-numbers-ne-NUMBERS.false c.if-scores-ne-SCORES.false in
     let fault : c.fresh-r.result.fault ≡ settings_fault c.args.g = ap (λ (o : Opening). o.fault) c.fresh-r.ensures in
-    let f = c in
-    let a = f.args in
-    let e = fresh_state_lem a.numbers.now a.scores.now a.g f.fresh-r.result.fault state fault in
-    record { value = e; numbers_after = lent_kept f.fresh-r.result.fault _ _ _ e c.if-fault-ne0.true }
+    let a = c.args in
+    let e = fresh_state_lem a.numbers.now a.scores.now a.g c.fresh-r.result.fault state fault in
+    record { value = e; numbers_after = lent_kept c.fresh-r.result.fault _ _ _ e c.if-fault-ne0.true }
 
 pub returns : goal.returns
 returns c =
     let state : is_state c.args.numbers.now c.args.scores.now ≡ true = both c.args.numbers.now c.args.scores.now c.if-numbers-ne-NUMBERS.false c.if-scores-ne-SCORES.false in
     let fault : c.fresh-r.result.fault ≡ settings_fault c.args.g = ap (λ (o : Opening). o.fault) c.fresh-r.ensures in
     let ready : view c.fresh-r.result.state ≡ fresh_view c.args.g = ap (λ (o : Opening). o.state) c.fresh-r.ensures in
-    let p = c in
-    let q = p in
-    let e = q in
-    let f = e in
-    let a = f.args in
-    let z = fresh_state_lem a.numbers.now a.scores.now a.g 0 state (sym e.if-fault-ne0.false ∙ fault) in
-    let n : p.put_call.new.numbers ≡ setting_numbers a.g ++ call_numbers (fresh_view a.g) ++ drop pairs_place a.numbers.now =
-    p.put_call.ensures
-    ∙ ap (λ (l : List ℕ). take settings_long l ++ call_numbers (view f.fresh-r.result.state) ++ drop pairs_place l) q.put_settings.ensures
+    let a = c.args in
+    let z = fresh_state_lem a.numbers.now a.scores.now a.g 0 state (sym c.if-fault-ne0.false ∙ fault) in
+    let n : c.put_call.new.numbers ≡ setting_numbers a.g ++ call_numbers (fresh_view a.g) ++ drop pairs_place a.numbers.now =
+    c.put_call.ensures
+    ∙ ap (λ (l : List ℕ). take settings_long l ++ call_numbers (view c.fresh-r.result.state) ++ drop pairs_place l) c.put_settings.ensures
     ∙ ap (λ (v : View). setting_numbers a.g ++ call_numbers v ++ drop call_long (drop settings_long a.numbers.now)) ready
     ∙ ap (λ (l : List ℕ). setting_numbers a.g ++ call_numbers (fresh_view a.g) ++ l) (drop-drop call_long settings_long a.numbers.now) in
     record { value = z; numbers_after = n ∙ lent_written _ _ _ z }

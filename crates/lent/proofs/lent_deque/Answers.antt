@@ -17,24 +17,22 @@ front_score-e-requires c = simp (length-take, length-drop) (omega arith)
 
 pub loop-i-preserved : goal.loop-i-preserved
 loop-i-preserved c =
-    let b = c in
-    let a = b.args in
+    let a = c.args in
     let xs = a.scores.now in
     let ps = drop pairs_place a.numbers.now in
-    let i = b.loop-i.i in
-    let inv = b.loop-i.invariant in
+    let i = c.loop-i.i in
+    let inv = c.loop-i.invariant in
     let k : take (length xs - i * score_long) (drop (i * score_long) xs) ≡ drop (i * score_long) xs
     = take_all (length xs - i * score_long) (drop (i * score_long) xs) (omega (arith, length-drop (i * score_long) xs)) in
     let e : c.front_score-e.result ≡ front_score (get_or ps i 0) (drop (i * score_long) xs)
     = c.front_score-e.ensures ∙ rw (k, get_or-drop pairs_place a.numbers.now i 0) in (
       omega arith,
-      (rw e (read_more b.loop-i.out.entries ps xs i inv.1.1.0 (omega arith) inv.1.0), (rw length-set inv.1.1.0, inv.1.1.1)),
+      (rw e (read_more c.loop-i.out.entries ps xs i inv.1.1.0 (omega arith) inv.1.0), (rw length-set inv.1.1.0, inv.1.1.1)),
     )
 
 pub returns : goal.returns
 returns c =
-    let b = c in
-    let a = b.args in
-    let i : b.loop-i.i ≡ min a.count room = omega arith in
-    let n = b.loop-i.invariant.1.1.1.0 in
-    record { result_value = rw n (read_all a.count b.loop-i.out.entries (drop pairs_place a.numbers.now) a.scores.now b.loop-i.invariant.1.1.0 (rw i at b.loop-i.invariant.1.0)); count_value = n }
+    let a = c.args in
+    let i : c.loop-i.i ≡ min a.count room = omega arith in
+    let n = c.loop-i.invariant.1.1.1.0 in
+    record { result_value = rw n (read_all a.count c.loop-i.out.entries (drop pairs_place a.numbers.now) a.scores.now c.loop-i.invariant.1.1.0 (rw i at c.loop-i.invariant.1.0)); count_value = n }

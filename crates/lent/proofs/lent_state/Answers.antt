@@ -3,5 +3,4 @@ use Rattle.lent.proofs.lent_state.Goals as goal
 
 pub returns : goal.returns
 returns c =
-    let d = c in
-    rw (d.lent_deque-d.ensures.result_value, d.lent_deque-d.ensures.count_value, d.lent_settings-g.ensures)
+    rw (c.lent_deque-d.ensures.result_value, c.lent_deque-d.ensures.count_value, c.lent_settings-g.ensures)

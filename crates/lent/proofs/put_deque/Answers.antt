@@ -21,83 +21,73 @@ loop-i-init c = (omega arith, (c.requires, placed_none c.args.scores.now))
 
 pub overflow_mul-at : goal.overflow_mul-at
 overflow_mul-at c =
-    let few : c.loop-i.i < room = let k = c in
-    let d = k.args.d in
-    let r : length d.entries ≡ room = roomy d _ k.well_formed.1.0 in
-    omega (arith, k.entry_count-n.ensures, length-take d.count d.entries) in
+    -- the deque's room
+    let few : c.loop-i.i < room = let d = c.args.d in
+    let r : length d.entries ≡ room = roomy d _ c.well_formed.1.0 in
+    omega (arith, c.entry_count-n.ensures, length-take d.count d.entries) in
     let f = few in omega arith
 
 pub offset_bounds-d-i : goal.offset_bounds-d-i
 offset_bounds-d-i c =
-    let few : c.loop-i.i < room = let k = c in
-    let d = k.args.d in
-    let r : length d.entries ≡ room = roomy d _ k.well_formed.1.0 in
-    omega (arith, k.entry_count-n.ensures, length-take d.count d.entries) in
+    let few : c.loop-i.i < room = let d = c.args.d in
+    let r : length d.entries ≡ room = roomy d _ c.well_formed.1.0 in
+    omega (arith, c.entry_count-n.ensures, length-take d.count d.entries) in
     let f = few in omega arith
 
 pub bounds-d-i : goal.bounds-d-i
 bounds-d-i c =
-    let few : c.loop-i.i < room = let k = c in
-    let d = k.args.d in
-    let r : length d.entries ≡ room = roomy d _ k.well_formed.1.0 in
-    omega (arith, k.entry_count-n.ensures, length-take d.count d.entries) in
+    let few : c.loop-i.i < room = let d = c.args.d in
+    let r : length d.entries ≡ room = roomy d _ c.well_formed.1.0 in
+    omega (arith, c.entry_count-n.ensures, length-take d.count d.entries) in
     let f = few in omega arith
 
 pub offset_bounds-scores-at : goal.offset_bounds-scores-at
 offset_bounds-scores-at c =
-    let few : c.loop-i.i < room = let k = c in
-    let d = k.args.d in
-    let r : length d.entries ≡ room = roomy d _ k.well_formed.1.0 in
-    omega (arith, k.entry_count-n.ensures, length-take d.count d.entries) in
+    let few : c.loop-i.i < room = let d = c.args.d in
+    let r : length d.entries ≡ room = roomy d _ c.well_formed.1.0 in
+    omega (arith, c.entry_count-n.ensures, length-take d.count d.entries) in
     let f = few in omega arith
 
 pub slice_bounds-put_score-count : goal.slice_bounds-put_score-count
 slice_bounds-put_score-count c =
-    let few : c.loop-i.i < room = let k = c in
-    let d = k.args.d in
-    let r : length d.entries ≡ room = roomy d _ k.well_formed.1.0 in
-    omega (arith, k.entry_count-n.ensures, length-take d.count d.entries) in
+    let few : c.loop-i.i < room = let d = c.args.d in
+    let r : length d.entries ≡ room = roomy d _ c.well_formed.1.0 in
+    omega (arith, c.entry_count-n.ensures, length-take d.count d.entries) in
     let f = few in omega arith
 
 pub slice_bounds-put_score-start : goal.slice_bounds-put_score-start
 slice_bounds-put_score-start c =
-    let few : c.loop-i.i < room = let k = c in
-    let d = k.args.d in
-    let r : length d.entries ≡ room = roomy d _ k.well_formed.1.0 in
-    omega (arith, k.entry_count-n.ensures, length-take d.count d.entries) in
+    let few : c.loop-i.i < room = let d = c.args.d in
+    let r : length d.entries ≡ room = roomy d _ c.well_formed.1.0 in
+    omega (arith, c.entry_count-n.ensures, length-take d.count d.entries) in
     let f = few in omega arith
 
 pub put_score-requires : goal.put_score-requires
 put_score-requires c =
-    let few : c.loop-i.i < room = let k = c in
-    let d = k.args.d in
-    let r : length d.entries ≡ room = roomy d _ k.well_formed.1.0 in
-    omega (arith, k.entry_count-n.ensures, length-take d.count d.entries) in
+    let few : c.loop-i.i < room = let d = c.args.d in
+    let r : length d.entries ≡ room = roomy d _ c.well_formed.1.0 in
+    omega (arith, c.entry_count-n.ensures, length-take d.count d.entries) in
     let f = few in simp (length-take, length-drop) (omega arith)
 
 pub loop-i-preserved : goal.loop-i-preserved
 loop-i-preserved c =
-    let few : c.loop-i.i < room = let k = c in
-    let d = k.args.d in
-    let r : length d.entries ≡ room = roomy d _ k.well_formed.1.0 in
-    omega (arith, k.entry_count-n.ensures, length-take d.count d.entries) in
-    let p = c in
-    let b = p in
-    let d = b.args.d in
-    let xs = b.args.scores.now in
-    let i = b.loop-i.i in
-    let out = b.loop-i.scores in
-    let r : length d.entries ≡ room = roomy d _ b.well_formed.1.0 in
+    let few : c.loop-i.i < room = let d = c.args.d in
+    let r : length d.entries ≡ room = roomy d _ c.well_formed.1.0 in
+    omega (arith, c.entry_count-n.ensures, length-take d.count d.entries) in
+    let d = c.args.d in
+    let xs = c.args.scores.now in
+    let i = c.loop-i.i in
+    let out = c.loop-i.scores in
+    let r : length d.entries ≡ room = roomy d _ c.well_formed.1.0 in
     let f = few in
-    let e : p.put_score.new.s ≡ doubles (get_or d.entries i no_score) ++ drop score_long (drop (i * score_long) out)
-    = p.put_score.ensures ∙ rw (take_all (length out - i * score_long) (drop (i * score_long) out) (omega (arith, length-drop (i * score_long) out))) in
-    let q : put_mid (i * score_long) (length out - i * score_long) out p.put_score.new.s ≡ placed (take (i + 1) d.entries) xs
-    = put_last (i * score_long) out p.put_score.new.s (omega arith) ∙ rw (e, b.loop-i.invariant.1.1, add-one) (sym (place_more d.entries i xs (omega arith))) in
-    (omega arith, (same_len_mid (i * score_long) (length out - i * score_long) out p.put_score.new.s p.put_score.auto.s ∙ b.loop-i.invariant.1.0, q))
+    let e : c.put_score.new.s ≡ doubles (get_or d.entries i no_score) ++ drop score_long (drop (i * score_long) out)
+    = c.put_score.ensures ∙ rw (take_all (length out - i * score_long) (drop (i * score_long) out) (omega (arith, length-drop (i * score_long) out))) in
+    let q : put_mid (i * score_long) (length out - i * score_long) out c.put_score.new.s ≡ placed (take (i + 1) d.entries) xs
+    = put_last (i * score_long) out c.put_score.new.s (omega arith) ∙ rw (e, c.loop-i.invariant.1.1, add-one) (sym (place_more d.entries i xs (omega arith))) in
+    (omega arith, (same_len_mid (i * score_long) (length out - i * score_long) out c.put_score.new.s c.put_score.auto.s ∙ c.loop-i.invariant.1.0, q))
 
 pub returns : goal.returns
 returns c =
-    let b = c in
-    let d = b.args.d in
-    let i : b.loop-i.i ≡ length (content d) = omega (arith, b.entry_count-n.ensures) in
-    b.loop-i.invariant.1.1 ∙ rw (i, take_content d)
+    let d = c.args.d in
+    let i : c.loop-i.i ≡ length (content d) = omega (arith, c.entry_count-n.ensures) in
+    c.loop-i.invariant.1.1 ∙ rw (i, take_content d)

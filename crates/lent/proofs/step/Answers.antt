@@ -22,9 +22,8 @@ pub returns : goal.returns
 returns c =
     let called : Call = let a = c.args in
     call a.length a.n a.p a.inter.now a.importance.now a.threshold.now in
-    let state : is_state c.args.numbers.now c.args.scores.now ≡ true = let e = c in
-    both c.args.numbers.now c.args.scores.now e.if-numbers-ne-NUMBERS.false e.if-scores-ne-SCORES.false in
+    let state : is_state c.args.numbers.now c.args.scores.now ≡ true = both c.args.numbers.now c.args.scores.now c.if-numbers-ne-NUMBERS.false c.if-scores-ne-SCORES.false in
+    -- the outcome is that of the state as it was lent
     let stepped : outcome c.step-r.result ≡ step_of (state_of c.args.numbers.now c.args.scores.now) called = c.step-r.ensures.result_value ∙ ap (λ (s : View). step_of s called) c.lent_state-s.ensures in
-    let p = c in
-    let s = p in
-    rw (state, ← stepped) (record { result_value = p.put_stepped.ensures.result_value; numbers_after = p.put_stepped.ensures.numbers_after; scores_after = p.put_stepped.ensures.scores_after })
+    let s = c in
+    rw (state, ← stepped) (record { result_value = c.put_stepped.ensures.result_value; numbers_after = c.put_stepped.ensures.numbers_after; scores_after = c.put_stepped.ensures.scores_after })

@@ -25,30 +25,28 @@ pub overflow_mul-x : goal.overflow_mul-x
 overflow_mul-x c = omega (arith, small c.loop-i.x _ c.loop-i.invariant.1.1 (omega arith))
 
 pub overflow_cast-x : goal.overflow_cast-x
-overflow_cast-x c = omega (arith, (let it : let b = c in get_or b.args.s.now (b.args.at + (b.loop-i.i - 1)) 0 < 256 = omega (arith, c.shared_slice_known-1.given (c.args.at + (c.loop-i.i - 1))) in it))
+overflow_cast-x c = omega (arith, (let it : get_or c.args.s.now (c.args.at + (c.loop-i.i - 1)) 0 < 256 = omega (arith, c.shared_slice_known-1.given (c.args.at + (c.loop-i.i - 1))) in it))
 
 pub overflow_add-x-in-loop-i : goal.overflow_add-x-in-loop-i
-overflow_add-x-in-loop-i c = omega (arith, (let it : let b = c in get_or b.args.s.now (b.args.at + (b.loop-i.i - 1)) 0 < 256 = omega (arith, c.shared_slice_known-1.given (c.args.at + (c.loop-i.i - 1))) in it), small c.loop-i.x _ c.loop-i.invariant.1.1 (omega arith))
+overflow_add-x-in-loop-i c = omega (arith, (let it : get_or c.args.s.now (c.args.at + (c.loop-i.i - 1)) 0 < 256 = omega (arith, c.shared_slice_known-1.given (c.args.at + (c.loop-i.i - 1))) in it), small c.loop-i.x _ c.loop-i.invariant.1.1 (omega arith))
 
 pub loop-i-preserved : goal.loop-i-preserved
 loop-i-preserved c =
-    let b = c in
-    let s = b.args.s.now in
-    let at = b.args.at in
-    let n = b.args.n in
-    let i = b.loop-i.i in
+    let s = c.args.s.now in
+    let at = c.args.at in
+    let n = c.args.n in
+    let i = c.loop-i.i in
     let more : n - (i - 1) ≡ suc (n - i) = omega arith in
     let next : suc (at + (i - 1)) ≡ at + i = omega arith in
     let power : 256 ^ suc (n - i) ≡ 256 * 256 ^ (n - i) = pow-succ' 256 (n - i) in (
       omega arith,
       rw more (
-        number-of (get_or s (at + (i - 1)) 0) b.loop-i.x _ (b.loop-i.invariant.1.0 ∙ ap (λ (k : ℕ). number_of (take (n - i) (drop k s))) (sym next)) ∙ sym (number_more s (at + (i - 1)) (n - i) (omega arith)),
-        omega (arith, (let it : let b = c in get_or b.args.s.now (b.args.at + (b.loop-i.i - 1)) 0 < 256 = omega (arith, c.shared_slice_known-1.given (c.args.at + (c.loop-i.i - 1))) in it), power, b.loop-i.invariant.1.1),
+        number-of (get_or s (at + (i - 1)) 0) c.loop-i.x _ (c.loop-i.invariant.1.0 ∙ ap (λ (k : ℕ). number_of (take (n - i) (drop k s))) (sym next)) ∙ sym (number_more s (at + (i - 1)) (n - i) (omega arith)),
+        omega (arith, (let it : get_or c.args.s.now (c.args.at + (c.loop-i.i - 1)) 0 < 256 = omega (arith, c.shared_slice_known-1.given (c.args.at + (c.loop-i.i - 1))) in it), power, c.loop-i.invariant.1.1),
       ),
     )
 
 pub returns : goal.returns
 returns c =
-    let b = c in
-    let none : b.loop-i.i ≡ 0 = omega arith in
-    record { value = simp (none, sub-zero, add-zero) at b.loop-i.invariant.1.0; upper_bound = simp (none, sub-zero) at b.loop-i.invariant.1.1 }
+    let none : c.loop-i.i ≡ 0 = omega arith in
+    record { value = simp (none, sub-zero, add-zero) at c.loop-i.invariant.1.0; upper_bound = simp (none, sub-zero) at c.loop-i.invariant.1.1 }

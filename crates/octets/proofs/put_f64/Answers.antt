@@ -6,6 +6,5 @@ use Rattle.octets.proofs.put_f64.Goals as goal
 
 pub returns : goal.returns
 returns c =
-    let k = c in
-    let a = k.args in
-    k.put_u64.ensures ∙ ap (λ (x : ℕ). with_number 8 a.at x a.s.now) k.bits_of.ensures
+    let a = c.args in
+    c.put_u64.ensures ∙ ap (λ (x : ℕ). with_number 8 a.at x a.s.now) c.bits_of.ensures

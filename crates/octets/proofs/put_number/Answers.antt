@@ -1,7 +1,7 @@
 -- `octets::put_number` meets its contract: after i turns the i low bytes stand there, and what is left is the number without them. Assumes
 use mathlib.Core.Path.{◌≡◌, refl, sym, ap, ap₂, ◌∙◌}
 use mathlib.Core.List.{List}
-use Prim.Native.Nat.{ℕ, suc, ◌+◌, ◌-◌, ◌/◌, ◌%◌}
+use Prim.Native.Nat.{ℕ, suc, ◌+◌, ◌/◌, ◌%◌}
 use native.Mathlib.Numerals.{add-one}
 use native.Mathlib.Omega.{arith}
 use lib.ListN.{length, set, length-set}
@@ -18,28 +18,26 @@ loop-i-init c = (omega arith, (refl, (sym (ap (λ (l : List ℕ). overwritten c.
 
 pub loop-i-preserved : goal.loop-i-preserved
 loop-i-preserved c =
-    let b = c in
-    let s = b.args.s.now in
-    let at = b.args.at in
-    let x = b.args.x in
-    let i = b.loop-i.i in
+    let s = c.args.s.now in
+    let at = c.args.at in
+    let x = c.args.x in
+    let i = c.loop-i.i in
     let long : length (bytes_of i x) ≡ i = bytes_long i x in
     let place : at + i ≡ at + length (bytes_of i x) = omega arith in
-    let byte : b.loop-i.rest % 256 ≡ higher i x % 256 = ap (λ (n : ℕ). n % 256) b.loop-i.invariant.1.1.1 in
+    let byte : c.loop-i.rest % 256 ≡ higher i x % 256 = ap (λ (n : ℕ). n % 256) c.loop-i.invariant.1.1.1 in
     let behind : set (overwritten at (bytes_of i x) s) (at + i) (higher i x % 256) ≡ overwritten at (bytes_of (suc i) x) s =
     rw (bytes_more i x, place) (over_set at (bytes_of i x) s (higher i x % 256) (omega arith)) in (
       omega arith,
       (
-        length-set b.loop-i.s (at + i) (b.loop-i.rest % 256) ∙ b.loop-i.invariant.1.0,
+        length-set c.loop-i.s (at + i) (c.loop-i.rest % 256) ∙ c.loop-i.invariant.1.0,
         (
-          ap₂ (λ (l : List ℕ) (n : ℕ). set l (at + i) n) b.loop-i.invariant.1.1.0 byte ∙ behind ∙ ap (λ (n : ℕ). overwritten at (bytes_of n x) s) (sym (add-one i)),
-          ap (λ (n : ℕ). n / 256) b.loop-i.invariant.1.1.1 ∙ sym (higher_next i x) ∙ ap (λ (n : ℕ). higher n x) (sym (add-one i)),
+          ap₂ (λ (l : List ℕ) (n : ℕ). set l (at + i) n) c.loop-i.invariant.1.1.0 byte ∙ behind ∙ ap (λ (n : ℕ). overwritten at (bytes_of n x) s) (sym (add-one i)),
+          ap (λ (n : ℕ). n / 256) c.loop-i.invariant.1.1.1 ∙ sym (higher_next i x) ∙ ap (λ (n : ℕ). higher n x) (sym (add-one i)),
         ),
       ),
     )
 
 pub returns : goal.returns
 returns c =
-    let b = c in
-    let all : b.loop-i.i ≡ b.args.n = omega arith in
-    rw all at b.loop-i.invariant.1.1.0
+    let all : c.loop-i.i ≡ c.args.n = omega arith in
+    rw all at c.loop-i.invariant.1.1.0

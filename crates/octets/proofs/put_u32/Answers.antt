@@ -9,8 +9,7 @@ put_number-requires c = leb-true _ _ (sym c.lies_within.ensures ∙ c.if-lies_wi
 
 pub returns-then-lies_within : goal.returns-then-lies_within
 returns-then-lies_within c =
-    let k = c in
-    k.put_number.ensures ∙ sym (with_lies 4 _ _ _ (sym k.lies_within.ensures ∙ k.if-lies_within.true))
+    c.put_number.ensures ∙ sym (with_lies 4 _ _ _ (sym c.lies_within.ensures ∙ c.if-lies_within.true))
 
 pub returns-else-lies_within : goal.returns-else-lies_within
 returns-else-lies_within c = sym (with_lacks 4 _ _ _ (sym c.lies_within.ensures ∙ c.if-lies_within.false))

@@ -7,6 +7,5 @@ use Rattle.plane.proofs.pair_fault.Goals as goal
 pub returns : goal.returns
 unfolding pair_fault
 returns c =
-    let k = c in
-    bytes_refused _ _ _ _ _ (λ i. omega (arith, k.shared_slice_known-1.given i)) (λ i. omega (arith, k.shared_slice_known-2-1.given i)) _ _
+    bytes_refused _ _ _ _ _ (λ i. omega (arith, c.shared_slice_known-1.given i)) (λ i. omega (arith, c.shared_slice_known-2-1.given i)) _ _
     c.shapes_fault.ensures (λ e. suited byte _ (by_shapes byte _ _ _ _ _ e).0)

@@ -19,6 +19,7 @@ returns-then-second-ne0 c =
 pub returns-then-p-q : goal.returns-then-p-q
 unfolding sizes_differ sizes_fault
 returns-then-p-q c =
+    -- past both planes' tests only their sizes can be refused
     let sizes : (r : ℕ) → let s = c.args in r ≡ refusal 3 (sizes_differ s.p s.q) → r ≡ sizes_fault s.p s.n s.q s.m = λ r e. or_later _ _ _ (sym c.if-first-ne0.false ∙ c.fault-first.ensures)
     (or_later _ _ _ (sym c.if-second-ne0.false ∙ c.fault-second.ensures) e) in
     sizes 3 (sym (ap (refusal 3) c.if-p-q.true))

@@ -16,8 +16,7 @@ use Rattle.reduce.proofs.add_all.Goals as goal
 
 pub loop-j-init : goal.loop-j-init
 loop-j-init c =
-    let s = c in
-    (search rules, search rules, is_table 0 sum_count _ s.args.sums.now s.requires.sums_len (λ k _. s.requires.by_index k ∙ sum_none _))
+    (search rules, search rules, is_table 0 sum_count _ c.args.sums.now c.requires.sums_len (λ k _. c.requires.by_index k ∙ sum_none _))
 
 pub overflow_mul-upper : goal.overflow_mul-upper
 overflow_mul-upper c = omega (arith, c.requires.half_bound)
@@ -107,8 +106,7 @@ add_rows-requires c =
     let bytes = c.shared_slice_known-1.given in
     omega
     (arith, so_far k h, s.requires.half_bound, pairs_most byte_most s.args.s.now (λ i. omega (arith, bytes i)) s.args.start s.args.stride (2 * c.loop-j.j) k) in
-    let d = c in
-    let h = inside in record { sums_len = c.loop-j.invariant.1 ∙ d.requires.sums_len; sum_count_in_bounds = (simp (length-take, length-drop) (omega arith), simp (length-take, length-drop) (omega arith)); by_index = room }
+    let h = inside in record { sums_len = c.loop-j.invariant.1 ∙ c.requires.sums_len; sum_count_in_bounds = (simp (length-take, length-drop) (omega arith), simp (length-take, length-drop) (omega arith)); by_index = room }
 
 pub loop-j-preserved : goal.loop-j-preserved
 loop-j-preserved c =
@@ -119,16 +117,14 @@ loop-j-preserved c =
     let second = s.requires.rows_in.rows (2 * j + 1) (omega arith) in
     (first, omega arith, omega arith) in
     let so_far : let s = c.args in (k : ℕ) → k < sum_count → get_or c.loop-j.sums k 0 ≡ pairs_from s.s.now s.start s.stride (2 * c.loop-j.j) k = λ k h. ap (λ (l : List ℕ). get_or l k 0) c.loop-j.invariant.2 ∙ table_at 0 sum_count _ k h in
-    let r = c in
-    let d = r in
-    let s = d in
+    let s = c in
     let a = s.args in
     let h = inside in
-    let j = d.loop-j.j in
+    let j = c.loop-j.j in
     let upper = a.start + 2 * j * a.stride in (
       search rules,
-      ap length r.add_rows.ensures ∙ length_table sum_count _ ∙ sym s.requires.sums_len,
-      r.add_rows.ensures
+      ap length c.add_rows.ensures ∙ length_table sum_count _ ∙ sym s.requires.sums_len,
+      c.add_rows.ensures
           ∙ table_below sum_count _ (pairs_from a.s.now a.start a.stride (2 * (j + 1)))
           (λ k k<.
           omega (

@@ -26,35 +26,32 @@ pair-requires-in-loop-k c = let p = c.requires in omega arith
 pub overflow_add-sums : goal.overflow_add-sums
 overflow_add-sums c =
     -- the two pairs are of bytes, and the sum is as it was: so the sum's word holds all
-    let small : (c.pair.result ≤ 2 * byte_most) × (c.pair-in-loop-k.result ≤ 2 * byte_most) = let l = c in
-    let s = l.args in
-    let a = l.shared_slice_known-1.given in
-    let b = l.shared_slice_known-2-1.given in (
-      rw c.pair.ensures (pair_most byte_most s.a.now (λ i. omega (arith, a i)) l.loop-k.k),
-      rw c.pair-in-loop-k.ensures (pair_most byte_most s.b.now (λ i. omega (arith, b i)) l.loop-k.k),
+    let small : (c.pair.result ≤ 2 * byte_most) × (c.pair-in-loop-k.result ≤ 2 * byte_most) = let s = c.args in
+    let a = c.shared_slice_known-1.given in
+    let b = c.shared_slice_known-2-1.given in (
+      rw c.pair.ensures (pair_most byte_most s.a.now (λ i. omega (arith, a i)) c.loop-k.k),
+      rw c.pair-in-loop-k.ensures (pair_most byte_most s.b.now (λ i. omega (arith, b i)) c.loop-k.k),
     ) in
     omega (arith, small)
 
 pub overflow_add-sums-in-loop-k : goal.overflow_add-sums-in-loop-k
 overflow_add-sums-in-loop-k c =
-    let small : (c.pair.result ≤ 2 * byte_most) × (c.pair-in-loop-k.result ≤ 2 * byte_most) = let l = c in
-    let s = l.args in
-    let a = l.shared_slice_known-1.given in
-    let b = l.shared_slice_known-2-1.given in (
-      rw c.pair.ensures (pair_most byte_most s.a.now (λ i. omega (arith, a i)) l.loop-k.k),
-      rw c.pair-in-loop-k.ensures (pair_most byte_most s.b.now (λ i. omega (arith, b i)) l.loop-k.k),
+    let small : (c.pair.result ≤ 2 * byte_most) × (c.pair-in-loop-k.result ≤ 2 * byte_most) = let s = c.args in
+    let a = c.shared_slice_known-1.given in
+    let b = c.shared_slice_known-2-1.given in (
+      rw c.pair.ensures (pair_most byte_most s.a.now (λ i. omega (arith, a i)) c.loop-k.k),
+      rw c.pair-in-loop-k.ensures (pair_most byte_most s.b.now (λ i. omega (arith, b i)) c.loop-k.k),
     ) in
-    let same : let l = c in get_or l.loop-k.sums l.loop-k.k 0 ≡ get_or l.args.sums.now l.loop-k.k 0 = let l = c in front_old l.loop-k.invariant.1 l.loop-k.k (omega arith) (omega (arith, l.requires.lane_count_in_bounds)) in
-    let l = c in omega (arith, small, same, l.requires.by_index l.loop-k.k (omega arith))
+    let same : get_or c.loop-k.sums c.loop-k.k 0 ≡ get_or c.args.sums.now c.loop-k.k 0 = front_old c.loop-k.invariant.1 c.loop-k.k (omega arith) (omega (arith, c.requires.lane_count_in_bounds)) in
+    omega (arith, small, same, c.requires.by_index c.loop-k.k (omega arith))
 
 pub bounds-sums-k-in-loop-k : goal.bounds-sums-k-in-loop-k
-bounds-sums-k-in-loop-k c = let l = c in omega (arith, l.loop-k.invariant.1.same, l.requires.lane_count_in_bounds)
+bounds-sums-k-in-loop-k c = omega (arith, c.loop-k.invariant.1.same, c.requires.lane_count_in_bounds)
 
 pub loop-k-preserved : goal.loop-k-preserved
 loop-k-preserved c =
-    let same : let l = c in get_or l.loop-k.sums l.loop-k.k 0 ≡ get_or l.args.sums.now l.loop-k.k 0 = let l = c in front_old l.loop-k.invariant.1 l.loop-k.k (omega arith) (omega (arith, l.requires.lane_count_in_bounds)) in
-    let l = c in
-    (search rules, front_more l.loop-k.invariant.1 _ (omega (arith, l.requires.lane_count_in_bounds)) (omega (arith, same, c.pair.ensures, c.pair-in-loop-k.ensures)))
+    let same : get_or c.loop-k.sums c.loop-k.k 0 ≡ get_or c.args.sums.now c.loop-k.k 0 = front_old c.loop-k.invariant.1 c.loop-k.k (omega arith) (omega (arith, c.requires.lane_count_in_bounds)) in
+    (search rules, front_more c.loop-k.invariant.1 _ (omega (arith, c.requires.lane_count_in_bounds)) (omega (arith, same, c.pair.ensures, c.pair-in-loop-k.ensures)))
 
 pub shape_of-sums : goal.shape_of-sums
 shape_of-sums c = c.loop-k.invariant.1.same

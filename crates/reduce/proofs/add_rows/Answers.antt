@@ -108,6 +108,5 @@ shape_of-sums c = c.loop-g.invariant.1.same
 
 pub returns : goal.returns
 returns c =
-    let s = c in
     wrote_all (λ (n k : ℕ). ltb k (n * lane_count)) c.loop-g.g turn_count c.loop-g.invariant.1 (omega arith)
-    ∙ prefix_all sum_count _ s.args.sums.now s.requires.sums_len
+    ∙ prefix_all sum_count _ c.args.sums.now c.requires.sums_len

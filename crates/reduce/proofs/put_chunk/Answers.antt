@@ -24,7 +24,7 @@ zeros n k = go (dec_lt k n)
     go (no h) = get_or-eq_default (replicate n 0) 0 {n = k} (omega (arith, length-replicate {A = ℕ} n 0))
 
 pub add_all-requires : goal.add_all-requires
-add_all-requires c = let s = c in record { sums_len = refl; by_index = zeros sum_count; half_bound = s.requires.half.most; rows_in = s.requires.rows_in }
+add_all-requires c = record { sums_len = refl; by_index = zeros sum_count; half_bound = c.requires.half.most; rows_in = c.requires.rows_in }
 
 -- what the means are asked for, and what they give, by the numbers of an arm; l are the chunk's sums
 module _ (h : ℕ) (half : Half h) (s : List ℕ) (bytes : (i : ℕ) → get_or s i 0 ≤ byte_most) (start stride : ℕ) (l : List ℕ)
@@ -72,14 +72,12 @@ put_means-requires-in-4 c = asks _ c.requires.half _ (λ i. omega (arith, c.shar
 pub overflow_mul-half-in_default : goal.overflow_mul-half-in_default
 overflow_mul-half-in_default c =
     -- 1,024 at most
-    let few : 4 * c.args.half * c.args.half ≤ 1024 = let s = c in
-    samples_most byte_most s.args.half s.requires.half s.args.s.now _ (λ i. omega (arith, c.shared_slice_known-1.given i)) _ _ c.add_all.ensures _ _ _ refl refl refl in
+    let few : 4 * c.args.half * c.args.half ≤ 1024 = samples_most byte_most c.args.half c.requires.half c.args.s.now _ (λ i. omega (arith, c.shared_slice_known-1.given i)) _ _ c.add_all.ensures _ _ _ refl refl refl in
     omega (arith, few)
 
 pub overflow_cast-half : goal.overflow_cast-half
 overflow_cast-half c =
-    let few : 4 * c.args.half * c.args.half ≤ 1024 = let s = c in
-    samples_most byte_most s.args.half s.requires.half s.args.s.now _ (λ i. omega (arith, c.shared_slice_known-1.given i)) _ _ c.add_all.ensures _ _ _ refl refl refl in
+    let few : 4 * c.args.half * c.args.half ≤ 1024 = samples_most byte_most c.args.half c.requires.half c.args.s.now _ (λ i. omega (arith, c.shared_slice_known-1.given i)) _ _ c.add_all.ensures _ _ _ refl refl refl in
     omega (arith, few)
 
 pub put_means-requires-in_default : goal.put_means-requires-in_default

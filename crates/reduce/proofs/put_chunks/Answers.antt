@@ -108,17 +108,15 @@ put_chunk-requires c =
     let ends : let s = c in (c.lesser-x.result + sum_count / s.args.half ≤ s.args.count) × (s.args.count ≤ length s.args.out.now) = let s = c in
     let h = some in
     (rw c.lesser-x.ensures (turn_covers _ _ h.0 h.1 c.loop-c.c begins).0, s.requires.half_bound.1) in
-    let d = c in
-    let s = d in
-    let h = ends in record { half = s.requires.half; half_in_bounds = simp (length-take, length-drop) (omega (arith, d.loop-c.invariant.1.same)); rows_in = chunk_in s.args.half s.args.start s.args.stride s.args.count d.lesser-x.result _ s.requires.half h.0 s.requires.rows_in }
+    let s = c in
+    let h = ends in record { half = s.requires.half; half_in_bounds = simp (length-take, length-drop) (omega (arith, c.loop-c.invariant.1.same)); rows_in = chunk_in s.args.half s.args.start s.args.stride s.args.count c.lesser-x.result _ s.requires.half h.0 s.requires.rows_in }
 
 pub overflow_step-c : goal.overflow_step-c
 overflow_step-c c =
     let some : (0 < sum_count / c.args.half) × (sum_count / c.args.half ≤ c.args.count) = (half_some _ c.requires.half, c.requires.half_bound.0) in
-    let d = c in
-    let s = d.args in
+    let s = c.args in
     let h = some in
-    omega (arith, d.loop-c-test.true, div-le_self (s.count - 1) (sum_count / s.half))
+    omega (arith, c.loop-c-test.true, div-le_self (s.count - 1) (sum_count / s.half))
 
 pub loop-c-preserved : goal.loop-c-preserved
 loop-c-preserved c =
@@ -127,16 +125,14 @@ loop-c-preserved c =
     let ends : let s = c in (c.lesser-x.result + sum_count / s.args.half ≤ s.args.count) × (s.args.count ≤ length s.args.out.now) = let s = c in
     let h = some in
     (rw c.lesser-x.ensures (turn_covers _ _ h.0 h.1 c.loop-c.c begins).0, s.requires.half_bound.1) in
-    let r = c in
-    let d = r in
-    let s = d in
+    let s = c in
     let a = s.args in
     let h = some in
-    let x = d.lesser-x.result in (
+    let x = c.lesser-x.result in (
       search rules,
-      wrote_part d.loop-c.invariant.1 x (sum_count / a.half) (mean_from (2 * a.half) a.s.now (a.start + x * (2 * a.half)) a.stride) (omega (arith, ends))
-          (λ k _. mean_shift (2 * a.half) a.s.now a.start a.stride x k) _ r.put_chunk.ensures
-          (rw d.lesser-x.ensures (turn_covers _ _ h.0 h.1 d.loop-c.c begins).1),
+      wrote_part c.loop-c.invariant.1 x (sum_count / a.half) (mean_from (2 * a.half) a.s.now (a.start + x * (2 * a.half)) a.stride) (omega (arith, ends))
+          (λ k _. mean_shift (2 * a.half) a.s.now a.start a.stride x k) _ c.put_chunk.ensures
+          (rw c.lesser-x.ensures (turn_covers _ _ h.0 h.1 c.loop-c.c begins).1),
     )
 
 pub shape_of-out : goal.shape_of-out
@@ -145,8 +141,7 @@ shape_of-out c = c.loop-c.invariant.1.same
 pub returns : goal.returns
 returns c =
     let some : (0 < sum_count / c.args.half) × (sum_count / c.args.half ≤ c.args.count) = (half_some _ c.requires.half, c.requires.half_bound.0) in
-    let s = c in
     let h = some in
-    let ended : c.loop-c.c ≡ (s.args.count - 1) / (sum_count / s.args.half) + 1 = omega arith in
-    wrote_all (λ (n k : ℕ). ltb k (min (n * (sum_count / s.args.half)) s.args.count)) c.loop-c.c _ c.loop-c.invariant.1 ended
-    ∙ ap (λ (n : ℕ). written (λ (k : ℕ). ltb k n) (mean_from (2 * s.args.half) s.args.s.now s.args.start s.args.stride) s.args.out.now) (all_covered _ _ h.0 h.1)
+    let ended : c.loop-c.c ≡ (c.args.count - 1) / (sum_count / c.args.half) + 1 = omega arith in
+    wrote_all (λ (n k : ℕ). ltb k (min (n * (sum_count / c.args.half)) c.args.count)) c.loop-c.c _ c.loop-c.invariant.1 ended
+    ∙ ap (λ (n : ℕ). written (λ (k : ℕ). ltb k n) (mean_from (2 * c.args.half) c.args.s.now c.args.start c.args.stride) c.args.out.now) (all_covered _ _ h.0 h.1)

@@ -44,16 +44,14 @@ nonzero_div-out-in-loop-x c = c.requires.samples_nonzero.0
 pub overflow_cast-out : goal.overflow_cast-out
 overflow_cast-out c =
     let small : c.sum_of.result ≤ c.args.samples * byte_most = rw c.sum_of.ensures (c.requires.by_index c.loop-x.x (omega arith)) in
-    let s = c in
-    omega (arith, mean_most byte_most s.args.samples c.sum_of.result s.requires.samples_nonzero.0 small)
+    omega (arith, mean_most byte_most c.args.samples c.sum_of.result c.requires.samples_nonzero.0 small)
 
 pub bounds-out-x : goal.bounds-out-x
 bounds-out-x c = omega (arith, c.loop-x.invariant.1.same, c.requires.count_in_bounds)
 
 pub loop-x-preserved : goal.loop-x-preserved
 loop-x-preserved c =
-    let s = c in
-    (search rules, front_more c.loop-x.invariant.1 _ (omega (arith, s.requires.count_in_bounds)) (ap (mean_of s.args.samples) c.sum_of.ensures))
+    (search rules, front_more c.loop-x.invariant.1 _ (omega (arith, c.requires.count_in_bounds)) (ap (mean_of c.args.samples) c.sum_of.ensures))
 
 pub shape_of-out : goal.shape_of-out
 shape_of-out c = c.loop-x.invariant.1.same

@@ -14,10 +14,10 @@ use Rattle.reduce.proofs.RowLaws.{square_in, first_in}
 use Rattle.reduce.proofs.put_squares.Goals as goal
 
 pub overflow_mul-samples : goal.overflow_mul-samples
-overflow_mul-samples c = let s = c in omega (arith, samples_few s.args.factor s.requires.factor_nonzero.1)
+overflow_mul-samples c = omega (arith, samples_few c.args.factor c.requires.factor_nonzero.1)
 
 pub overflow_cast-samples : goal.overflow_cast-samples
-overflow_cast-samples c = let s = c in omega (arith, samples_few s.args.factor s.requires.factor_nonzero.1)
+overflow_cast-samples c = omega (arith, samples_few c.args.factor c.requires.factor_nonzero.1)
 
 pub loop-x-init : goal.loop-x-init
 loop-x-init c = (search rules, front_none _ _)
@@ -44,25 +44,22 @@ sum_square-sum-requires c =
 pub overflow_add-out : goal.overflow_add-out
 overflow_add-out c =
     -- its sum has room for the rounding, and its mean is not above a sample
-    let mean : let f = c.args.factor in let sum = c.sum_square-sum.result in (sum + f * f / 2 < 2 ^ 32) × ((0 < f * f) × (mean_of (f * f) sum ≤ byte_most)) = let s = c in
-    let bytes = c.shared_slice_known-1.given in
-    mean_turn byte_most s.args.factor s.args.s.now (λ i. omega (arith, bytes i)) (omega arith) s.requires.factor_nonzero.1 _ s.args.stride c.sum_square-sum.result s.requires.factor_nonzero.0
+    let mean : let f = c.args.factor in let sum = c.sum_square-sum.result in (sum + f * f / 2 < 2 ^ 32) × ((0 < f * f) × (mean_of (f * f) sum ≤ byte_most)) = let bytes = c.shared_slice_known-1.given in
+    mean_turn byte_most c.args.factor c.args.s.now (λ i. omega (arith, bytes i)) (omega arith) c.requires.factor_nonzero.1 _ c.args.stride c.sum_square-sum.result c.requires.factor_nonzero.0
     c.sum_square-sum.ensures in
     record { fits = mean.0 }
 
 pub nonzero_div-out-in-loop-x : goal.nonzero_div-out-in-loop-x
 nonzero_div-out-in-loop-x c =
-    let mean : let f = c.args.factor in let sum = c.sum_square-sum.result in (sum + f * f / 2 < 2 ^ 32) × ((0 < f * f) × (mean_of (f * f) sum ≤ byte_most)) = let s = c in
-    let bytes = c.shared_slice_known-1.given in
-    mean_turn byte_most s.args.factor s.args.s.now (λ i. omega (arith, bytes i)) (omega arith) s.requires.factor_nonzero.1 _ s.args.stride c.sum_square-sum.result s.requires.factor_nonzero.0
+    let mean : let f = c.args.factor in let sum = c.sum_square-sum.result in (sum + f * f / 2 < 2 ^ 32) × ((0 < f * f) × (mean_of (f * f) sum ≤ byte_most)) = let bytes = c.shared_slice_known-1.given in
+    mean_turn byte_most c.args.factor c.args.s.now (λ i. omega (arith, bytes i)) (omega arith) c.requires.factor_nonzero.1 _ c.args.stride c.sum_square-sum.result c.requires.factor_nonzero.0
     c.sum_square-sum.ensures in
     mean.1.0
 
 pub overflow_cast-out : goal.overflow_cast-out
 overflow_cast-out c =
-    let mean : let f = c.args.factor in let sum = c.sum_square-sum.result in (sum + f * f / 2 < 2 ^ 32) × ((0 < f * f) × (mean_of (f * f) sum ≤ byte_most)) = let s = c in
-    let bytes = c.shared_slice_known-1.given in
-    mean_turn byte_most s.args.factor s.args.s.now (λ i. omega (arith, bytes i)) (omega arith) s.requires.factor_nonzero.1 _ s.args.stride c.sum_square-sum.result s.requires.factor_nonzero.0
+    let mean : let f = c.args.factor in let sum = c.sum_square-sum.result in (sum + f * f / 2 < 2 ^ 32) × ((0 < f * f) × (mean_of (f * f) sum ≤ byte_most)) = let bytes = c.shared_slice_known-1.given in
+    mean_turn byte_most c.args.factor c.args.s.now (λ i. omega (arith, bytes i)) (omega arith) c.requires.factor_nonzero.1 _ c.args.stride c.sum_square-sum.result c.requires.factor_nonzero.0
     c.sum_square-sum.ensures in
     omega (arith, mean.1.1)
 
@@ -71,8 +68,7 @@ bounds-out-x c = omega (arith, c.loop-x.invariant.1.same, c.requires.count_in_bo
 
 pub loop-x-preserved : goal.loop-x-preserved
 loop-x-preserved c =
-    let s = c in
-    (search rules, front_more c.loop-x.invariant.1 _ (omega (arith, s.requires.count_in_bounds)) (ap (mean_of (s.args.factor * s.args.factor)) c.sum_square-sum.ensures))
+    (search rules, front_more c.loop-x.invariant.1 _ (omega (arith, c.requires.count_in_bounds)) (ap (mean_of (c.args.factor * c.args.factor)) c.sum_square-sum.ensures))
 
 pub shape_of-out : goal.shape_of-out
 shape_of-out c = c.loop-x.invariant.1.same

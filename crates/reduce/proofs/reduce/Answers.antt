@@ -18,6 +18,5 @@ reduce_plane-requires c =
 pub returns : goal.returns
 returns c =
     let none : let s = c.args in 0 ≡ reduce_fault byte s.depth s.factor s.p s.s.now s.q s.reduced.now = sym c.if-fault-ne0.false ∙ c.reduce_fault-fault.ensures in
-    let r = c in
     let e = none in
-    record { value = e; reduced_after = r.reduce_plane.ensures ∙ lent_written _ _ _ e }
+    record { value = e; reduced_after = c.reduce_plane.ensures ∙ lent_written _ _ _ e }

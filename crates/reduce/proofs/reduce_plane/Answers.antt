@@ -13,52 +13,49 @@ loop-y-init c = (search rules, wrote_none _ _ _ (rows_none _ _ _))
 pub overflow_mul-at : goal.overflow_mul-at
 overflow_mul-at c =
     -- what the turn has
-    let turn : let a = c.args in Turn a.factor (length a.s.now) (length a.reduced.now) a.p a.q c.loop-y.y = let s = c in plane_turn s.args.factor _ _ s.args.p s.args.q c.loop-y.y s.requires c.loop-y-test.true in
+    let turn : let a = c.args in Turn a.factor (length a.s.now) (length a.reduced.now) a.p a.q c.loop-y.y = plane_turn c.args.factor _ _ c.args.p c.args.q c.loop-y.y c.requires c.loop-y-test.true in
     omega (arith, turn.lent)
 
 pub overflow_add-at : goal.overflow_add-at
 overflow_add-at c =
-    let turn : let a = c.args in Turn a.factor (length a.s.now) (length a.reduced.now) a.p a.q c.loop-y.y = let s = c in plane_turn s.args.factor _ _ s.args.p s.args.q c.loop-y.y s.requires c.loop-y-test.true in
+    let turn : let a = c.args in Turn a.factor (length a.s.now) (length a.reduced.now) a.p a.q c.loop-y.y = plane_turn c.args.factor _ _ c.args.p c.args.q c.loop-y.y c.requires c.loop-y-test.true in
     omega (arith, turn.lent)
 
 pub slice_bounds-reduce_row-count : goal.slice_bounds-reduce_row-count
 slice_bounds-reduce_row-count c =
-    let turn : let a = c.args in Turn a.factor (length a.s.now) (length a.reduced.now) a.p a.q c.loop-y.y = let s = c in plane_turn s.args.factor _ _ s.args.p s.args.q c.loop-y.y s.requires c.loop-y-test.true in
+    let turn : let a = c.args in Turn a.factor (length a.s.now) (length a.reduced.now) a.p a.q c.loop-y.y = plane_turn c.args.factor _ _ c.args.p c.args.q c.loop-y.y c.requires c.loop-y-test.true in
     omega (arith, turn.lent, c.loop-y.invariant.1.same)
 
 pub slice_bounds-reduce_row-start : goal.slice_bounds-reduce_row-start
 slice_bounds-reduce_row-start c =
-    let turn : let a = c.args in Turn a.factor (length a.s.now) (length a.reduced.now) a.p a.q c.loop-y.y = let s = c in plane_turn s.args.factor _ _ s.args.p s.args.q c.loop-y.y s.requires c.loop-y-test.true in
+    let turn : let a = c.args in Turn a.factor (length a.s.now) (length a.reduced.now) a.p a.q c.loop-y.y = plane_turn c.args.factor _ _ c.args.p c.args.q c.loop-y.y c.requires c.loop-y-test.true in
     omega (arith, turn.lent, c.loop-y.invariant.1.same)
 
 pub overflow_mul-y : goal.overflow_mul-y
 overflow_mul-y c =
-    let turn : let a = c.args in Turn a.factor (length a.s.now) (length a.reduced.now) a.p a.q c.loop-y.y = let s = c in plane_turn s.args.factor _ _ s.args.p s.args.q c.loop-y.y s.requires c.loop-y-test.true in
+    let turn : let a = c.args in Turn a.factor (length a.s.now) (length a.reduced.now) a.p a.q c.loop-y.y = plane_turn c.args.factor _ _ c.args.p c.args.q c.loop-y.y c.requires c.loop-y-test.true in
     omega (arith, turn.few)
 
 pub overflow_mul-y-in-loop-y : goal.overflow_mul-y-in-loop-y
 overflow_mul-y-in-loop-y c =
-    let turn : let a = c.args in Turn a.factor (length a.s.now) (length a.reduced.now) a.p a.q c.loop-y.y = let s = c in plane_turn s.args.factor _ _ s.args.p s.args.q c.loop-y.y s.requires c.loop-y-test.true in
+    let turn : let a = c.args in Turn a.factor (length a.s.now) (length a.reduced.now) a.p a.q c.loop-y.y = plane_turn c.args.factor _ _ c.args.p c.args.q c.loop-y.y c.requires c.loop-y-test.true in
     omega (arith, turn.start)
 
 pub overflow_add-origin : goal.overflow_add-origin
 overflow_add-origin c =
-    let turn : let a = c.args in Turn a.factor (length a.s.now) (length a.reduced.now) a.p a.q c.loop-y.y = let s = c in plane_turn s.args.factor _ _ s.args.p s.args.q c.loop-y.y s.requires c.loop-y-test.true in
+    let turn : let a = c.args in Turn a.factor (length a.s.now) (length a.reduced.now) a.p a.q c.loop-y.y = plane_turn c.args.factor _ _ c.args.p c.args.q c.loop-y.y c.requires c.loop-y-test.true in
     omega (arith, turn.start)
 
 pub reduce_row-requires : goal.reduce_row-requires
 reduce_row-requires c =
-    let turn : let a = c.args in Turn a.factor (length a.s.now) (length a.reduced.now) a.p a.q c.loop-y.y = let s = c in plane_turn s.args.factor _ _ s.args.p s.args.q c.loop-y.y s.requires c.loop-y-test.true in
-    let d = c in
-    record { factor_value = d.requires.factor_value; count_in_bounds = simp (length-take, length-drop) (omega (arith, turn.lent, d.loop-y.invariant.1.same)); rows_in = turn.squares }
+    let turn : let a = c.args in Turn a.factor (length a.s.now) (length a.reduced.now) a.p a.q c.loop-y.y = plane_turn c.args.factor _ _ c.args.p c.args.q c.loop-y.y c.requires c.loop-y-test.true in
+    record { factor_value = c.requires.factor_value; count_in_bounds = simp (length-take, length-drop) (omega (arith, turn.lent, c.loop-y.invariant.1.same)); rows_in = turn.squares }
 
 pub loop-y-preserved : goal.loop-y-preserved
 loop-y-preserved c =
-    let turn : let a = c.args in Turn a.factor (length a.s.now) (length a.reduced.now) a.p a.q c.loop-y.y = let s = c in plane_turn s.args.factor _ _ s.args.p s.args.q c.loop-y.y s.requires c.loop-y-test.true in
-    let r = c in
-    let d = r in
-    let a = d.args in
-    (search rules, row_wrote a.factor a.p a.s.now a.q a.reduced.now _ d.loop-y.y d.loop-y.invariant.1 turn _ r.reduce_row.ensures)
+    let turn : let a = c.args in Turn a.factor (length a.s.now) (length a.reduced.now) a.p a.q c.loop-y.y = plane_turn c.args.factor _ _ c.args.p c.args.q c.loop-y.y c.requires c.loop-y-test.true in
+    let a = c.args in
+    (search rules, row_wrote a.factor a.p a.s.now a.q a.reduced.now _ c.loop-y.y c.loop-y.invariant.1 turn _ c.reduce_row.ensures)
 
 pub shape_of-reduced : goal.shape_of-reduced
 shape_of-reduced c = c.loop-y.invariant.1.same

@@ -24,16 +24,12 @@ slice_bounds-copy_row-start c =
 pub copy_row-requires : goal.copy_row-requires
 copy_row-requires c =
     let inside : let s = c.args in s.start + s.count ≤ length s.s.now = let s = c in copy_in s.args.factor s.args.start s.args.stride s.args.count s.args.s.now c.if-factor-eq1.true s.requires.rows_in in
-    let d = c in
     let h = inside in
-    record { n_in_bounds = d.requires.count_in_bounds; n_in_bounds_2 = simp (length-take, length-drop) (omega arith) }
+    record { n_in_bounds = c.requires.count_in_bounds; n_in_bounds_2 = simp (length-take, length-drop) (omega arith) }
 
 pub returns-then-factor-eq1 : goal.returns-then-factor-eq1
 returns-then-factor-eq1 c =
-    let r = c in
-    let d = r in
-    let s = d in
-    r.copy_row.ensures ∙ copy_is s.args.factor s.args.start s.args.stride s.args.count s.args.s.now d.if-factor-eq1.true s.requires.rows_in s.args.out.now
+    c.copy_row.ensures ∙ copy_is c.args.factor c.args.start c.args.stride c.args.count c.args.s.now c.if-factor-eq1.true c.requires.rows_in c.args.out.now
 
 pub nonzero_div-half-2 : goal.nonzero_div-half-2
 nonzero_div-half-2 c =
@@ -42,7 +38,7 @@ nonzero_div-half-2 c =
     halved.1.some
 
 pub put_squares-requires : goal.put_squares-requires
-put_squares-requires c = let s = c in record { factor_nonzero = factor_small _ s.requires.factor_value; count_in_bounds = s.requires.count_in_bounds; rows_in = s.requires.rows_in }
+put_squares-requires c = record { factor_nonzero = factor_small _ c.requires.factor_value; count_in_bounds = c.requires.count_in_bounds; rows_in = c.requires.rows_in }
 
 pub returns-then-count-half : goal.returns-then-count-half
 returns-then-count-half c = c.put_squares.ensures
@@ -50,14 +46,11 @@ returns-then-count-half c = c.put_squares.ensures
 pub put_chunks-requires : goal.put_chunks-requires
 put_chunks-requires c =
     let halved : let s = c.args in (2 * (s.factor / 2) ≡ s.factor) × Half (s.factor / 2) = factor_half _ c.requires.factor_value c.if-factor-eq1.false in
-    let d = c in
-    let s = d in
-    let h = halved in record { half = h.1; half_bound = (d.if-count-half.false, s.requires.count_in_bounds); rows_in = subst (λ (f : ℕ). RowsIn s.args.start s.args.stride f (s.args.count * f) (length s.args.s.now)) (sym h.0) s.requires.rows_in }
+    let s = c in
+    let h = halved in record { half = h.1; half_bound = (c.if-count-half.false, s.requires.count_in_bounds); rows_in = subst (λ (f : ℕ). RowsIn s.args.start s.args.stride f (s.args.count * f) (length s.args.s.now)) (sym h.0) s.requires.rows_in }
 
 pub returns : goal.returns
 returns c =
     let halved : let s = c.args in (2 * (s.factor / 2) ≡ s.factor) × Half (s.factor / 2) = factor_half _ c.requires.factor_value c.if-factor-eq1.false in
-    let r = c in
-    let d = r in
-    let s = d.args in
-    r.put_chunks.ensures ∙ ap (λ (f : ℕ). written (λ (k : ℕ). ltb k s.count) (mean_from f s.s.now s.start s.stride) s.out.now) halved.0
+    let s = c.args in
+    c.put_chunks.ensures ∙ ap (λ (f : ℕ). written (λ (k : ℕ). ltb k s.count) (mean_from f s.s.now s.start s.stride) s.out.now) halved.0

@@ -22,26 +22,22 @@ pub returns-then-p-factor : goal.returns-then-p-factor
 unfolding too_small
 returns-then-p-factor c =
     let good : bad_factor c.args.factor ≡ false = sym c.bad_factor.ensures ∙ c.if-bad_factor.false in
-    let d = c in
-    test_later 6 _ _ _ good (or_later _ _ _ (sym d.if-fault-ne0.false) (test_first 0 _ _ c.if-p-factor.true))
+    test_later 6 _ _ _ good (or_later _ _ _ (sym c.if-fault-ne0.false) (test_first 0 _ _ c.if-p-factor.true))
 
 pub returns-then-first-ne0 : goal.returns-then-first-ne0
 unfolding too_small
 returns-then-first-ne0 c =
     let good : bad_factor c.args.factor ≡ false = sym c.bad_factor.ensures ∙ c.if-bad_factor.false in
     -- past the third test the planes speak
-    let planes : let s = c.args in (r : ℕ) → r ≡ plane_fault s.p s.n or_else plane_fault s.q s.m or_else refusal 3 (not_reduced s.factor s.p s.q) → r ≡ sides_by s.fault s.factor s.p s.n s.q s.m = λ r e. let d = c in
-    test_later 6 _ _ _ good (or_later _ _ _ (sym d.if-fault-ne0.false) (test_later 1 _ _ _ c.if-p-factor.false e)) in
+    let planes : let s = c.args in (r : ℕ) → r ≡ plane_fault s.p s.n or_else plane_fault s.q s.m or_else refusal 3 (not_reduced s.factor s.p s.q) → r ≡ sides_by s.fault s.factor s.p s.n s.q s.m = λ r e. test_later 6 _ _ _ good (or_later _ _ _ (sym c.if-fault-ne0.false) (test_later 1 _ _ _ c.if-p-factor.false e)) in
     planes _ (or_given _ _ _ c.fault-first.ensures c.if-first-ne0.true)
 
 pub returns-then-second-ne0 : goal.returns-then-second-ne0
 unfolding too_small
 returns-then-second-ne0 c =
     let good : bad_factor c.args.factor ≡ false = sym c.bad_factor.ensures ∙ c.if-bad_factor.false in
-    let planes : let s = c.args in (r : ℕ) → r ≡ plane_fault s.p s.n or_else plane_fault s.q s.m or_else refusal 3 (not_reduced s.factor s.p s.q) → r ≡ sides_by s.fault s.factor s.p s.n s.q s.m = λ r e. let d = c in
-    test_later 6 _ _ _ good (or_later _ _ _ (sym d.if-fault-ne0.false) (test_later 1 _ _ _ c.if-p-factor.false e)) in
-    let d = c in
-    planes _ (or_later _ _ _ (sym d.if-first-ne0.false ∙ d.fault-first.ensures) (or_given _ _ _ c.fault-second.ensures c.if-second-ne0.true))
+    let planes : let s = c.args in (r : ℕ) → r ≡ plane_fault s.p s.n or_else plane_fault s.q s.m or_else refusal 3 (not_reduced s.factor s.p s.q) → r ≡ sides_by s.fault s.factor s.p s.n s.q s.m = λ r e. test_later 6 _ _ _ good (or_later _ _ _ (sym c.if-fault-ne0.false) (test_later 1 _ _ _ c.if-p-factor.false e)) in
+    planes _ (or_later _ _ _ (sym c.if-first-ne0.false ∙ c.fault-first.ensures) (or_given _ _ _ c.fault-second.ensures c.if-second-ne0.true))
 
 pub nonzero_div-p : goal.nonzero_div-p
 nonzero_div-p c =
@@ -60,21 +56,17 @@ pub returns-then-q-p : goal.returns-then-q-p
 unfolding not_reduced too_small
 returns-then-q-p c =
     let good : bad_factor c.args.factor ≡ false = sym c.bad_factor.ensures ∙ c.if-bad_factor.false in
-    let planes : let s = c.args in (r : ℕ) → r ≡ plane_fault s.p s.n or_else plane_fault s.q s.m or_else refusal 3 (not_reduced s.factor s.p s.q) → r ≡ sides_by s.fault s.factor s.p s.n s.q s.m = λ r e. let d = c in
-    test_later 6 _ _ _ good (or_later _ _ _ (sym d.if-fault-ne0.false) (test_later 1 _ _ _ c.if-p-factor.false e)) in
+    let planes : let s = c.args in (r : ℕ) → r ≡ plane_fault s.p s.n or_else plane_fault s.q s.m or_else refusal 3 (not_reduced s.factor s.p s.q) → r ≡ sides_by s.fault s.factor s.p s.n s.q s.m = λ r e. test_later 6 _ _ _ good (or_later _ _ _ (sym c.if-fault-ne0.false) (test_later 1 _ _ _ c.if-p-factor.false e)) in
     -- past the fifth test both planes are good
-    let sides : let s = c.args in (r : ℕ) → r ≡ refusal 3 (not_reduced s.factor s.p s.q) → r ≡ sides_by s.fault s.factor s.p s.n s.q s.m = λ r e. let d = c in
-    planes r
-    (or_later _ _ _ (sym d.if-first-ne0.false ∙ d.fault-first.ensures) (or_later _ _ _ (sym c.if-second-ne0.false ∙ c.fault-second.ensures) e)) in
+    let sides : let s = c.args in (r : ℕ) → r ≡ refusal 3 (not_reduced s.factor s.p s.q) → r ≡ sides_by s.fault s.factor s.p s.n s.q s.m = λ r e. planes r
+    (or_later _ _ _ (sym c.if-first-ne0.false ∙ c.fault-first.ensures) (or_later _ _ _ (sym c.if-second-ne0.false ∙ c.fault-second.ensures) e)) in
     sides _ (test_given 3 _ c.if-q-p.true)
 
 pub returns : goal.returns
 unfolding not_reduced too_small
 returns c =
     let good : bad_factor c.args.factor ≡ false = sym c.bad_factor.ensures ∙ c.if-bad_factor.false in
-    let planes : let s = c.args in (r : ℕ) → r ≡ plane_fault s.p s.n or_else plane_fault s.q s.m or_else refusal 3 (not_reduced s.factor s.p s.q) → r ≡ sides_by s.fault s.factor s.p s.n s.q s.m = λ r e. let d = c in
-    test_later 6 _ _ _ good (or_later _ _ _ (sym d.if-fault-ne0.false) (test_later 1 _ _ _ c.if-p-factor.false e)) in
-    let sides : let s = c.args in (r : ℕ) → r ≡ refusal 3 (not_reduced s.factor s.p s.q) → r ≡ sides_by s.fault s.factor s.p s.n s.q s.m = λ r e. let d = c in
-    planes r
-    (or_later _ _ _ (sym d.if-first-ne0.false ∙ d.fault-first.ensures) (or_later _ _ _ (sym c.if-second-ne0.false ∙ c.fault-second.ensures) e)) in
+    let planes : let s = c.args in (r : ℕ) → r ≡ plane_fault s.p s.n or_else plane_fault s.q s.m or_else refusal 3 (not_reduced s.factor s.p s.q) → r ≡ sides_by s.fault s.factor s.p s.n s.q s.m = λ r e. test_later 6 _ _ _ good (or_later _ _ _ (sym c.if-fault-ne0.false) (test_later 1 _ _ _ c.if-p-factor.false e)) in
+    let sides : let s = c.args in (r : ℕ) → r ≡ refusal 3 (not_reduced s.factor s.p s.q) → r ≡ sides_by s.fault s.factor s.p s.n s.q s.m = λ r e. planes r
+    (or_later _ _ _ (sym c.if-first-ne0.false ∙ c.fault-first.ensures) (or_later _ _ _ (sym c.if-second-ne0.false ∙ c.fault-second.ensures) e)) in
     sides _ (test_passed 3 _ c.if-q-p.false)

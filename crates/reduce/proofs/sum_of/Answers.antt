@@ -29,18 +29,16 @@ overflow_cast-sum c = let p = c.args in omega (arith, c.shared_slice_known-1.giv
 
 pub overflow_add-sum-in-loop-i : goal.overflow_add-sum-in-loop-i
 overflow_add-sum-in-loop-i c =
-    let next : let l = c in let s = l.args in NextSum (2 ^ 32) l.loop-i.i l.loop-i.sum (get_or s.sums.now (s.at + l.loop-i.i) 0) (λ (m : ℕ). get_or s.sums.now (s.at + m) 0) = let l = c in
-    let s = l.args in
-    let n = l.requires.n_le_sum_count in
-    row_next most s.n s.sums.now (λ i. omega (arith, c.shared_slice_known-1.given i)) (2 ^ 32) (λ (m : ℕ). s.at + m) (omega arith) l.loop-i.i l.loop-i.sum _ (omega arith) l.loop-i.invariant.1 refl in
+    let next : let s = c.args in NextSum (2 ^ 32) c.loop-i.i c.loop-i.sum (get_or s.sums.now (s.at + c.loop-i.i) 0) (λ (m : ℕ). get_or s.sums.now (s.at + m) 0) = let s = c.args in
+    let n = c.requires.n_le_sum_count in
+    row_next most s.n s.sums.now (λ i. omega (arith, c.shared_slice_known-1.given i)) (2 ^ 32) (λ (m : ℕ). s.at + m) (omega arith) c.loop-i.i c.loop-i.sum _ (omega arith) c.loop-i.invariant.1 refl in
     record { fits = next.1 }
 
 pub loop-i-preserved : goal.loop-i-preserved
 loop-i-preserved c =
-    let next : let l = c in let s = l.args in NextSum (2 ^ 32) l.loop-i.i l.loop-i.sum (get_or s.sums.now (s.at + l.loop-i.i) 0) (λ (m : ℕ). get_or s.sums.now (s.at + m) 0) = let l = c in
-    let s = l.args in
-    let n = l.requires.n_le_sum_count in
-    row_next most s.n s.sums.now (λ i. omega (arith, c.shared_slice_known-1.given i)) (2 ^ 32) (λ (m : ℕ). s.at + m) (omega arith) l.loop-i.i l.loop-i.sum _ (omega arith) l.loop-i.invariant.1 refl in
+    let next : let s = c.args in NextSum (2 ^ 32) c.loop-i.i c.loop-i.sum (get_or s.sums.now (s.at + c.loop-i.i) 0) (λ (m : ℕ). get_or s.sums.now (s.at + m) 0) = let s = c.args in
+    let n = c.requires.n_le_sum_count in
+    row_next most s.n s.sums.now (λ i. omega (arith, c.shared_slice_known-1.given i)) (2 ^ 32) (λ (m : ℕ). s.at + m) (omega arith) c.loop-i.i c.loop-i.sum _ (omega arith) c.loop-i.invariant.1 refl in
     (search rules, next.0)
 
 pub returns : goal.returns

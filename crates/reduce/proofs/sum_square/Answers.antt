@@ -30,18 +30,16 @@ sum_row-sum-requires c =
 
 pub overflow_add-sum : goal.overflow_add-sum
 overflow_add-sum c =
-    let next : let l = c in let s = l.args in NextSum (2 ^ 32) l.loop-j.j l.loop-j.sum c.sum_row-sum.result (row_from s.n s.s.now s.start s.stride) = let l = c in
-    let s = l.args in
-    square_turn byte_most s.n s.s.now (λ i. omega (arith, l.shared_slice_known-1.given i)) (omega arith) l.requires.n_bound s.start s.stride
-    l.loop-j.j l.loop-j.sum c.sum_row-sum.result (omega arith) l.loop-j.invariant.1 c.sum_row-sum.ensures in
+    let next : let s = c.args in NextSum (2 ^ 32) c.loop-j.j c.loop-j.sum c.sum_row-sum.result (row_from s.n s.s.now s.start s.stride) = let s = c.args in
+    square_turn byte_most s.n s.s.now (λ i. omega (arith, c.shared_slice_known-1.given i)) (omega arith) c.requires.n_bound s.start s.stride
+    c.loop-j.j c.loop-j.sum c.sum_row-sum.result (omega arith) c.loop-j.invariant.1 c.sum_row-sum.ensures in
     record { fits = next.1 }
 
 pub loop-j-preserved : goal.loop-j-preserved
 loop-j-preserved c =
-    let next : let l = c in let s = l.args in NextSum (2 ^ 32) l.loop-j.j l.loop-j.sum c.sum_row-sum.result (row_from s.n s.s.now s.start s.stride) = let l = c in
-    let s = l.args in
-    square_turn byte_most s.n s.s.now (λ i. omega (arith, l.shared_slice_known-1.given i)) (omega arith) l.requires.n_bound s.start s.stride
-    l.loop-j.j l.loop-j.sum c.sum_row-sum.result (omega arith) l.loop-j.invariant.1 c.sum_row-sum.ensures in
+    let next : let s = c.args in NextSum (2 ^ 32) c.loop-j.j c.loop-j.sum c.sum_row-sum.result (row_from s.n s.s.now s.start s.stride) = let s = c.args in
+    square_turn byte_most s.n s.s.now (λ i. omega (arith, c.shared_slice_known-1.given i)) (omega arith) c.requires.n_bound s.start s.stride
+    c.loop-j.j c.loop-j.sum c.sum_row-sum.result (omega arith) c.loop-j.invariant.1 c.sum_row-sum.ensures in
     (search rules, next.0)
 
 pub returns : goal.returns

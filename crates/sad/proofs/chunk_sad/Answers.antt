@@ -1,5 +1,5 @@
 -- `sad::chunk_sad` meets its contract. After i turns the sum is that of the chunk's first i pairs, which by the bound on a sample fits. Assumes nothing.
-use Prim.Native.Nat.{ℕ, ◌+◌, ◌^◌, ◌-◌}
+use Prim.Native.Nat.{ℕ, ◌+◌, ◌^◌}
 use native.Mathlib.Omega.{arith}
 use borrow.Author.Rules.{rules}
 use Rattle.sums.specs.Needs.{byte_most}
@@ -13,22 +13,20 @@ loop-i-init c = (search rules, sum_none _)
 
 pub overflow_add-sum : goal.overflow_add-sum
 overflow_add-sum c =
-    let next : let l = c in let s = l.args in NextSum (2 ^ 16) l.loop-i.i l.loop-i.sum c.distance-sum.result (λ (i : ℕ). gap_at s.a.now s.b.now (s.at + i)) = let l = c in
-    let s = l in
+    let next : let s = c.args in NextSum (2 ^ 16) c.loop-i.i c.loop-i.sum c.distance-sum.result (λ (i : ℕ). gap_at s.a.now s.b.now (s.at + i)) = let s = c in
     chunk_next byte_most s.args.a.now s.args.b.now
-    (λ i. omega (arith, l.shared_slice_known-1.given i))
-    (λ i. omega (arith, l.shared_slice_known-2-1.given i))
-    s.args.at s.args.n (2 ^ 16) (omega arith) l.loop-i.i l.loop-i.sum c.distance-sum.result (omega arith) l.loop-i.invariant.1 c.distance-sum.ensures in
+    (λ i. omega (arith, c.shared_slice_known-1.given i))
+    (λ i. omega (arith, c.shared_slice_known-2-1.given i))
+    s.args.at s.args.n (2 ^ 16) (omega arith) c.loop-i.i c.loop-i.sum c.distance-sum.result (omega arith) c.loop-i.invariant.1 c.distance-sum.ensures in
     record { fits = next.1 }
 
 pub loop-i-preserved : goal.loop-i-preserved
 loop-i-preserved c =
-    let next : let l = c in let s = l.args in NextSum (2 ^ 16) l.loop-i.i l.loop-i.sum c.distance-sum.result (λ (i : ℕ). gap_at s.a.now s.b.now (s.at + i)) = let l = c in
-    let s = l in
+    let next : let s = c.args in NextSum (2 ^ 16) c.loop-i.i c.loop-i.sum c.distance-sum.result (λ (i : ℕ). gap_at s.a.now s.b.now (s.at + i)) = let s = c in
     chunk_next byte_most s.args.a.now s.args.b.now
-    (λ i. omega (arith, l.shared_slice_known-1.given i))
-    (λ i. omega (arith, l.shared_slice_known-2-1.given i))
-    s.args.at s.args.n (2 ^ 16) (omega arith) l.loop-i.i l.loop-i.sum c.distance-sum.result (omega arith) l.loop-i.invariant.1 c.distance-sum.ensures in
+    (λ i. omega (arith, c.shared_slice_known-1.given i))
+    (λ i. omega (arith, c.shared_slice_known-2-1.given i))
+    s.args.at s.args.n (2 ^ 16) (omega arith) c.loop-i.i c.loop-i.sum c.distance-sum.result (omega arith) c.loop-i.invariant.1 c.distance-sum.ensures in
     (search rules, next.0)
 
 pub returns : goal.returns

@@ -16,6 +16,7 @@ returns-then-fault-ne0 c = answer_refused _ _ _ c.pair_fault-fault.ensures c.if-
 
 pub sad_plane-total-requires : goal.sad_plane-total-requires
 sad_plane-total-requires c =
+    -- past the test the planes are not refused
     let sizes : let s = c.args in sizes_fault s.p (length s.a.now) s.q (length s.b.now) ≡ 0 = measured _ _ _ _ _ _ (sym c.pair_fault-fault.ensures ∙ c.if-fault-ne0.false) in
     sizes
 
@@ -27,7 +28,6 @@ overflow_mul-p c =
 
 pub returns : goal.returns
 returns c =
-    let d = c in
-    let p = d.args.p in
-    answer_given _ _ _ (sym d.if-fault-ne0.false ∙ d.pair_fault-fault.ensures)
-    (c.quotient.ensures ∙ ap (λ (total : ℕ). quotient_of total (p.width * p.height)) d.sad_plane-total.ensures)
+    let p = c.args.p in
+    answer_given _ _ _ (sym c.if-fault-ne0.false ∙ c.pair_fault-fault.ensures)
+    (c.quotient.ensures ∙ ap (λ (total : ℕ). quotient_of total (p.width * p.height)) c.sad_plane-total.ensures)

@@ -14,13 +14,16 @@ use Rattle.sad.proofs.row_sad.Goals as goal
 
 pub overflow_add-sum : goal.overflow_add-sum
 overflow_add-sum c =
+    -- where the small chunks end
     let last : ℕ = let n = length c.args.a.now in n / 32 * 32 + (n - n / 32 * 32) / 8 * 8 in
+    -- the row's first n pairs, and their bound
     let row : ℕ → ℕ = λ n. sum_below n (gap_at c.args.a.now c.args.b.now) in
     let row_most : (n : ℕ) → n ≤ length c.args.a.now → row n < 2 ^ 32 = λ n h. let s = c.args in
     row_fits byte_most s.a.now s.b.now
     (λ i. omega (arith, c.shared_slice_known-1.given i))
     (λ i. omega (arith, c.shared_slice_known-2-1.given i))
     n (2 ^ 32) (omega arith) (omega arith) in
+    -- both kinds of chunks, and then all of the row
     let chunked : let s = c in c.chunks_sad.result + c.chunks_sad-2.result ≡ row last = let s = c.args in
     row_more s.a.now s.b.now _ _ _ _ (c.chunks_sad.ensures ∙ row_from s.a.now s.b.now _) c.chunks_sad-2.ensures in
     omega (arith, chunked, row_most last (omega arith))
@@ -44,8 +47,8 @@ pub returns : goal.returns
 returns c =
     let last : ℕ = let n = length c.args.a.now in n / 32 * 32 + (n - n / 32 * 32) / 8 * 8 in
     let row : ℕ → ℕ = λ n. sum_below n (gap_at c.args.a.now c.args.b.now) in
-    let chunked : let s = c in c.chunks_sad.result + c.chunks_sad-2.result ≡ row last = let s = c.args in
+    let chunked : c.chunks_sad.result + c.chunks_sad-2.result ≡ row last = let s = c.args in
     row_more s.a.now s.b.now _ _ _ _ (c.chunks_sad.ensures ∙ row_from s.a.now s.b.now _) c.chunks_sad-2.ensures in
-    let whole : let s = c in c.chunks_sad.result + c.chunks_sad-2.result + c.chunks_sad-3.result ≡ row (length s.args.a.now) = let s = c.args in
+    let whole : c.chunks_sad.result + c.chunks_sad-2.result + c.chunks_sad-3.result ≡ row (length c.args.a.now) = let s = c.args in
     sum_to _ _ _ _ (row_more s.a.now s.b.now _ _ _ _ chunked c.chunks_sad-3.ensures) (omega arith) in
     whole

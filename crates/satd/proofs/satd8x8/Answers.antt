@@ -6,7 +6,6 @@ use Rattle.satd.proofs.satd8x8.Goals as goal
 
 -- entries fits. Assumes nothing.
 
-
 pub returns-then-first-ne-SAMPLES : goal.returns-then-first-ne-SAMPLES
 returns-then-first-ne-SAMPLES c = let s = c.args in first_refused s.first.now s.second.now c.if-first-ne-SAMPLES.true
 
@@ -29,6 +28,4 @@ pub returns : goal.returns
 returns c =
     let changed : let s = c.args in Left s.first.now s.second.now c.hadamard8x8.new.block = left byte_most _ _ (λ i. omega (arith, c.shared_slice_known-1.given i)) (λ i. omega (arith, c.shared_slice_known-2-1.given i))
     (omega arith) _ _ c.subtract.ensures c.hadamard8x8.ensures.block_after in
-    let h = c in
-    let e = h in
-    left_satd changed _ c.total-sum.ensures e.if-first-ne-SAMPLES.false e.if-second-ne-SAMPLES.false
+    left_satd changed _ c.total-sum.ensures c.if-first-ne-SAMPLES.false c.if-second-ne-SAMPLES.false

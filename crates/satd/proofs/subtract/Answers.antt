@@ -1,6 +1,5 @@
 -- `satd::subtract` meets its contract. The loop's invariant: the places passed hold the differences. Assumes nothing.
 use mathlib.Core.Path.{◌∙◌}
-use Prim.Native.Nat.{◌-◌}
 use native.Mathlib.Omega.{arith}
 use borrow.Author.Rules.{rules, sfits_of}
 use mir.Syntax.{w32}

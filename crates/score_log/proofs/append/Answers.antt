@@ -78,15 +78,12 @@ returns-then-log-at c =
 
 pub put_record-requires : goal.put_record-requires
 put_record-requires c =
-    let e = c in
-    let a = e.args in
-    record { record_long_in_bounds = omega arith; cut_bound = small (take a.used a.log.now) a.r (or_none _ _ (sym (sym e.if-fault-ne0.false ∙ e.new_fault-fault.ensures))).1 }
+    let a = c.args in
+    record { record_long_in_bounds = omega arith; cut_bound = small (take a.used a.log.now) a.r (or_none _ _ (sym (sym c.if-fault-ne0.false ∙ c.new_fault-fault.ensures))).1 }
 
 pub returns : goal.returns
 returns c =
-    let p = c in
-    let e = p in
-    let a = e.args in
+    let a = c.args in
     let lent = a.log.now in
     let at = place lent a.used (omega arith) in
-    let none = room lent a.used a.r (omega arith) (sym e.if-fault-ne0.false ∙ e.new_fault-fault.ensures) (omega (arith, at)) in record { result_value = answer_given _ _ _ none (ap (λ (n : ℕ). n + record_long) at); log_after = p.put_record.ensures ∙ ap (λ (n : ℕ). overwritten n (record_bytes a.r) lent) at ∙ lent_written _ _ _ none }
+    let none = room lent a.used a.r (omega arith) (sym c.if-fault-ne0.false ∙ c.new_fault-fault.ensures) (omega (arith, at)) in record { result_value = answer_given _ _ _ none (ap (λ (n : ℕ). n + record_long) at); log_after = c.put_record.ensures ∙ ap (λ (n : ℕ). overwritten n (record_bytes a.r) lent) at ∙ lent_written _ _ _ none }

@@ -19,13 +19,11 @@ returns-then-cut-gt1 c =
 pub returns-then-number-least_after : goal.returns-then-number-least_after
 unfolding new_fault
 returns-then-number-least_after c =
-    let e = c in
-    or_later 14 _ _ (sym e.if-fault-ne0.false ∙ e.log_fault-fault.ensures)
-    (later_number _ _ _ e.if-cut-gt1.false (rw c.least_after.ensures at c.if-number-least_after.true))
+    or_later 14 _ _ (sym c.if-fault-ne0.false ∙ c.log_fault-fault.ensures)
+    (later_number _ _ _ c.if-cut-gt1.false (rw c.least_after.ensures at c.if-number-least_after.true))
 
 pub returns : goal.returns
 unfolding new_fault
 returns c =
-    let e = c in
-    or_later 0 _ _ (sym e.if-fault-ne0.false ∙ e.log_fault-fault.ensures)
-    (later_none _ _ _ e.if-cut-gt1.false (rw c.least_after.ensures at c.if-number-least_after.false))
+    or_later 0 _ _ (sym c.if-fault-ne0.false ∙ c.log_fault-fault.ensures)
+    (later_none _ _ _ c.if-cut-gt1.false (rw c.least_after.ensures at c.if-number-least_after.false))

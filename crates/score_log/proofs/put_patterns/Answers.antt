@@ -17,12 +17,7 @@ longer bs k x e = omega (arith, length-append bs (bytes_of pattern_long x), byte
 pub returns : goal.returns
 unfolding pattern_bytes
 returns c =
-    let k5 = c in
-    let k4 = k5 in
-    let k3 = k4 in
-    let k2 = k3 in
-    let k1 = k2 in
-    let a = k1.args in
+    let a = c.args in
     let s = a.log.now in
     let at = a.at in
     let r = a.r in
@@ -34,9 +29,9 @@ returns c =
     let l2 : length b2 ≡ 16 = longer b1 8 (to_bits binary64 r.imp_block_cost) l1 in
     let l3 : length b3 ≡ 24 = longer b2 16 (to_bits binary64 r.backward_adjusted_cost) l2 in
     let l4 : length b4 ≡ 32 = longer b3 24 (to_bits binary64 r.forward_adjusted_cost) l3 in
-    let e1 = k1.put_f64.ensures ∙ with_here 8 at s (omega arith) (to_bits binary64 r.inter_cost) in
-    let e2 = k2.put_f64-2.ensures ∙ number_next at 8 b1 s k1.put_f64.new.s l1 e1 8 (to_bits binary64 r.imp_block_cost) (omega arith) in
-    let e3 = k3.put_f64-3.ensures ∙ number_next at 16 b2 s k2.put_f64-2.new.s l2 e2 8 (to_bits binary64 r.backward_adjusted_cost) (omega arith) in
-    let e4 = k4.put_f64-4.ensures ∙ number_next at 24 b3 s k3.put_f64-3.new.s l3 e3 8 (to_bits binary64 r.forward_adjusted_cost) (omega arith) in
-    let e5 = k5.put_f64-5.ensures ∙ number_next at 32 b4 s k4.put_f64-4.new.s l4 e4 8 (to_bits binary64 r.threshold) (omega arith) in
+    let e1 = c.put_f64.ensures ∙ with_here 8 at s (omega arith) (to_bits binary64 r.inter_cost) in
+    let e2 = c.put_f64-2.ensures ∙ number_next at 8 b1 s c.put_f64.new.s l1 e1 8 (to_bits binary64 r.imp_block_cost) (omega arith) in
+    let e3 = c.put_f64-3.ensures ∙ number_next at 16 b2 s c.put_f64-2.new.s l2 e2 8 (to_bits binary64 r.backward_adjusted_cost) (omega arith) in
+    let e4 = c.put_f64-4.ensures ∙ number_next at 24 b3 s c.put_f64-3.new.s l3 e3 8 (to_bits binary64 r.forward_adjusted_cost) (omega arith) in
+    let e5 = c.put_f64-5.ensures ∙ number_next at 32 b4 s c.put_f64-4.new.s l4 e4 8 (to_bits binary64 r.threshold) (omega arith) in
     e5 ∙ ap (λ (bs : List ℕ). overwritten at bs s) (simp (append_assoc, append-nil))

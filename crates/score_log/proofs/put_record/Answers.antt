@@ -26,24 +26,18 @@ put_patterns-requires c =
 
 pub bounds-log-at-3 : goal.bounds-log-at-3
 bounds-log-at-3 c =
-    let k2 = c in
-    let k1 = k2 in
-    let a = k1.args in
-    omega (arith, k2.put_patterns.auto.log, k1.put_u32.auto.s, marked-long a.log.now a.at)
+    let a = c.args in
+    omega (arith, c.put_patterns.auto.log, c.put_u32.auto.s, marked-long a.log.now a.at)
 
 pub shape_of-log : goal.shape_of-log
 shape_of-log c =
-    let k2 = c in
-    let k1 = k2 in
-    let a = k1.args in
-    omega (arith, length-set k2.put_patterns.new.log (a.at + 46) a.r.cut, k2.put_patterns.auto.log, k1.put_u32.auto.s, marked-long a.log.now a.at)
+    let a = c.args in
+    omega (arith, length-set c.put_patterns.new.log (a.at + 46) a.r.cut, c.put_patterns.auto.log, c.put_u32.auto.s, marked-long a.log.now a.at)
 
 pub returns : goal.returns
 unfolding record_bytes
 returns c =
-    let k2 = c in
-    let k1 = k2 in
-    let a = k1.args in
+    let a = c.args in
     let s = a.log.now in
     let at = a.at in
     let r = a.r in
@@ -55,7 +49,7 @@ returns c =
     let l4 : length b4 ≡ 46 = omega (arith, length-append b3 (pattern_bytes (patterns r)), patterns_long (patterns r)) in
     let e1 = over_one at s 0x53 (omega arith) in
     let e2 = byte_next at 1 b1 s (set s at 0x53) refl e1 0x43 (omega arith) in
-    let e3 = k1.put_u32.ensures ∙ number_next at 2 b2 s (set (set s at 0x53) (at + 1) 0x43) refl e2 4 r.number (omega arith) in
-    let e4 = k2.put_patterns.ensures ∙ bytes_next at 6 b3 s k1.put_u32.new.s l3 e3 (pattern_bytes (patterns r)) (omega arith) in
-    let e5 = byte_next at 46 b4 s k2.put_patterns.new.log l4 e4 r.cut (omega arith) in
+    let e3 = c.put_u32.ensures ∙ number_next at 2 b2 s (set (set s at 0x53) (at + 1) 0x43) refl e2 4 r.number (omega arith) in
+    let e4 = c.put_patterns.ensures ∙ bytes_next at 6 b3 s c.put_u32.new.s l3 e3 (pattern_bytes (patterns r)) (omega arith) in
+    let e5 = byte_next at 46 b4 s c.put_patterns.new.log l4 e4 r.cut (omega arith) in
     e5 ∙ ap (λ (bs : List ℕ). overwritten at bs s) (simp append_assoc)

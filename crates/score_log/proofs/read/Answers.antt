@@ -47,15 +47,12 @@ returns-then-numbers-n c =
 
 pub take_records-requires : goal.take_records-requires
 take_records-requires c =
-    let e = c in
-    let a = e.args in
-    roomy a.log.now a.numbers.now a.bits.now a.cuts.now e.if-numbers-n.false
+    let a = c.args in
+    roomy a.log.now a.numbers.now a.bits.now a.cuts.now c.if-numbers-n.false
 
 pub returns : goal.returns
 unfolding read_fault
 returns c =
-    let t = c in
-    let e = t in
-    let f = e.log_fault-fault in
-    let none = or_later 0 _ _ (sym e.if-fault-ne0.false ∙ f.ensures) (test_passed 15 _ e.if-numbers-n.false) in
-    let took = t.take_records.ensures in record { result_value = answer_given _ _ _ none refl; numbers_after = took.numbers_after ∙ lent_written _ _ _ none; bits_after = took.bits_after ∙ lent_written _ _ _ none; cuts_after = took.cuts_after ∙ lent_written _ _ _ none; torn_after = lent_written _ _ _ none }
+    let f = c.log_fault-fault in
+    let none = or_later 0 _ _ (sym c.if-fault-ne0.false ∙ f.ensures) (test_passed 15 _ c.if-numbers-n.false) in
+    let took = c.take_records.ensures in record { result_value = answer_given _ _ _ none refl; numbers_after = took.numbers_after ∙ lent_written _ _ _ none; bits_after = took.bits_after ∙ lent_written _ _ _ none; cuts_after = took.cuts_after ∙ lent_written _ _ _ none; torn_after = lent_written _ _ _ none }

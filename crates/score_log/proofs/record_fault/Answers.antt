@@ -43,8 +43,7 @@ returns-then-number-least_after c =
     let bytes : List ℕ = record_in log place in
     let least : ℕ = least_after log place in
     let passed-so-far : (f : ℕ) → f ≡ later_fault (cut_field bytes) (number_field bytes) least → f ≡ bytes_fault least bytes = λ f e. fault_later least bytes f first second e in
-    let k = c in
-    passed-so-far 14 (later_number (cut_field bytes) (number_field bytes) least cut (rw (number, ← k.least_after.ensures) c.if-number-least_after.true))
+    passed-so-far 14 (later_number (cut_field bytes) (number_field bytes) least cut (rw (number, ← c.least_after.ensures) c.if-number-least_after.true))
 
 pub returns : goal.returns
 returns c =
@@ -57,5 +56,4 @@ returns c =
     let bytes : List ℕ = record_in log place in
     let least : ℕ = least_after log place in
     let passed-so-far : (f : ℕ) → f ≡ later_fault (cut_field bytes) (number_field bytes) least → f ≡ bytes_fault least bytes = λ f e. fault_later least bytes f first second e in
-    let k = c in
-    passed-so-far 0 (later_none (cut_field bytes) (number_field bytes) least cut (rw (number, ← k.least_after.ensures) c.if-number-least_after.false))
+    passed-so-far 0 (later_none (cut_field bytes) (number_field bytes) least cut (rw (number, ← c.least_after.ensures) c.if-number-least_after.false))

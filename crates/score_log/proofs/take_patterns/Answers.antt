@@ -1,7 +1,7 @@
 -- `log::take_patterns` meets its contract: after j turns the first j patterns stand in the list. Assumes nothing.
 use mathlib.Core.Path.{◌≡◌, refl, sym, ap, ◌∙◌}
 use mathlib.Core.List.{List}
-use Prim.Native.Nat.{ℕ, ◌+◌, ◌*◌, ◌-◌}
+use Prim.Native.Nat.{ℕ, ◌+◌, ◌*◌}
 use native.Mathlib.Numerals.{add-one}
 use native.Mathlib.Omega.{arith}
 use lib.ListN.{length, length-set}
@@ -21,24 +21,22 @@ loop-j-init c =
 
 pub loop-j-preserved : goal.loop-j-preserved
 loop-j-preserved c =
-    let b = c in
-    let a = b.args in
+    let a = c.args in
     let log = a.log.now in
     let to = a.to in
-    let j = b.loop-j.j in
+    let j = c.loop-j.j in
     let so_far = joined j (pattern_at a.at log) in
     let long : length so_far ≡ j = omega (arith, joined_long 1 (pattern_at a.at log) (λ k. refl) j) in
     let place : to + j ≡ to + length so_far = omega arith in
     let value : c.u64_at.result ≡ field pattern_long (a.at + j * pattern_long) log = c.u64_at.ensures ∙ number_here pattern_long (a.at + j * pattern_long) log (omega arith) in (
       omega arith,
       (
-        length-set b.loop-j.bits (to + j) c.u64_at.result ∙ b.loop-j.invariant.1.0,
-        rw (add-one j, joined_next j (pattern_at a.at log), b.loop-j.invariant.1.1, value, place) (over_set to so_far a.bits.now (field pattern_long (a.at + j * pattern_long) log) (omega arith)),
+        length-set c.loop-j.bits (to + j) c.u64_at.result ∙ c.loop-j.invariant.1.0,
+        rw (add-one j, joined_next j (pattern_at a.at log), c.loop-j.invariant.1.1, value, place) (over_set to so_far a.bits.now (field pattern_long (a.at + j * pattern_long) log) (omega arith)),
       ),
     )
 
 pub returns : goal.returns
 returns c =
-    let b = c in
-    let all : b.loop-j.j ≡ pattern_count = omega arith in
-    rw all at b.loop-j.invariant.1.1
+    let all : c.loop-j.j ≡ pattern_count = omega arith in
+    rw all at c.loop-j.invariant.1.1

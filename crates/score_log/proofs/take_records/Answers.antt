@@ -1,7 +1,7 @@
 -- `log::take_records` meets its contract: after k turns the lists hold the first k records. Assumes nothing.
 use mathlib.Core.Path.{◌≡◌, refl, sym, ap, ◌∙◌}
 use mathlib.Core.List.{List, [], ◌∷◌}
-use Prim.Native.Nat.{ℕ, ◌+◌, ◌*◌, ◌-◌}
+use Prim.Native.Nat.{ℕ, ◌+◌, ◌*◌}
 use native.Mathlib.Numerals.{add-one}
 use native.Mathlib.Omega.{arith}
 use lib.ListN.{length, get_or}
@@ -27,29 +27,25 @@ take_patterns-requires c = record { pattern_long_in_bounds = omega arith; patter
 
 pub loop-k-preserved : goal.loop-k-preserved
 loop-k-preserved c =
-    let p = c in
-    let b = p in
-    let a = b.args in
+    let a = c.args in
     let log = a.log.now in
-    let k = b.loop-k.k in
-    let u = p in
-    let number : u.u32_at.result ≡ field number_long number_place (record_in log k) =
-    u.u32_at.ensures ∙ number_here number_long (k * record_long + number_place) log (omega arith) ∙ sym (field_in log k number_long number_place (omega arith)) in
+    let k = c.loop-k.k in
+    let number : c.u32_at.result ≡ field number_long number_place (record_in log k) =
+    c.u32_at.ensures ∙ number_here number_long (k * record_long + number_place) log (omega arith) ∙ sym (field_in log k number_long number_place (omega arith)) in
     let cut : get_or log (k * record_long + cut_place) 0 ≡ cut_field (record_in log k) = sym (byte_in log k cut_place (omega arith)) in
     rw (add-one k) (
       omega arith,
       (
-        filled_one (number_one log) a.numbers.now (λ k. refl) b.loop-k.numbers k b.loop-k.invariant.1.0 (omega arith) u.u32_at.result (ap (λ (x : ℕ). x ∷ []) number),
+        filled_one (number_one log) a.numbers.now (λ k. refl) c.loop-k.numbers k c.loop-k.invariant.1.0 (omega arith) c.u32_at.result (ap (λ (x : ℕ). x ∷ []) number),
         (
-          rw p.take_patterns.ensures (filled_more (patterns_one log) a.bits.now pattern_count (patterns-wide log) b.loop-k.bits k b.loop-k.invariant.1.1.0 (omega arith) _ (sym (patterns_in log k))),
-          filled_one (cut_one log) a.cuts.now (λ k. refl) b.loop-k.cuts k b.loop-k.invariant.1.1.1 (omega arith) (get_or log (k * record_long + cut_place) 0) (ap (λ (x : ℕ). x ∷ []) cut),
+          rw c.take_patterns.ensures (filled_more (patterns_one log) a.bits.now pattern_count (patterns-wide log) c.loop-k.bits k c.loop-k.invariant.1.1.0 (omega arith) _ (sym (patterns_in log k))),
+          filled_one (cut_one log) a.cuts.now (λ k. refl) c.loop-k.cuts k c.loop-k.invariant.1.1.1 (omega arith) (get_or log (k * record_long + cut_place) 0) (ap (λ (x : ℕ). x ∷ []) cut),
         ),
       ),
     )
 
 pub returns : goal.returns
 returns c =
-    let b = c in
-    let all : b.loop-k.k ≡ b.args.n = omega arith in
-    let i = rw all at b.loop-k.invariant.1 in
+    let all : c.loop-k.k ≡ c.args.n = omega arith in
+    let i = rw all at c.loop-k.invariant.1 in
     record { numbers_after = i.0.is; bits_after = i.1.0.is; cuts_after = i.1.1.is }

@@ -1,7 +1,6 @@
 -- `any_forbidden` meets its contract: the search of the list is the search from i on, as long as nothing before i was found.
 use mathlib.Core.Path.{◌≡◌, refl, sym, ◌∙◌}
 use mathlib.Core.Bool.{true, false}
-use Prim.Native.Nat.{◌-◌}
 use lib.ListN.{get_or}
 use lib.Ieee.{nan}
 use Rattle.score.specs.Costs.{forbidden}
@@ -16,17 +15,15 @@ loop-i-init c = (omega arith, (refl, refl))
 
 pub returns-then-is_forbidden : goal.returns-then-is_forbidden
 returns-then-is_forbidden c =
-    let b = c in
-    let a = b.args in
-    let r : forbidden (get_or a.list.now b.loop-i.i nan) ≡ true = sym c.is_forbidden.ensures ∙ c.if-is_forbidden.true in
-    sym (b.loop-i.invariant.1.1 ∙ any_more forbidden a.list.now b.loop-i.i nan (omega arith) ∙ rw r)
+    let a = c.args in
+    let r : forbidden (get_or a.list.now c.loop-i.i nan) ≡ true = sym c.is_forbidden.ensures ∙ c.if-is_forbidden.true in
+    sym (c.loop-i.invariant.1.1 ∙ any_more forbidden a.list.now c.loop-i.i nan (omega arith) ∙ rw r)
 
 pub loop-i-preserved : goal.loop-i-preserved
 loop-i-preserved c =
-    let b = c in
-    let a = b.args in
-    let r : forbidden (get_or a.list.now b.loop-i.i nan) ≡ false = sym c.is_forbidden.ensures ∙ c.if-is_forbidden.false in
-    (omega arith, (refl, b.loop-i.invariant.1.1 ∙ any_more forbidden a.list.now b.loop-i.i nan (omega arith) ∙ rw r))
+    let a = c.args in
+    let r : forbidden (get_or a.list.now c.loop-i.i nan) ≡ false = sym c.is_forbidden.ensures ∙ c.if-is_forbidden.false in
+    (omega arith, (refl, c.loop-i.invariant.1.1 ∙ any_more forbidden a.list.now c.loop-i.i nan (omega arith) ∙ rw r))
 
 pub returns : goal.returns
 returns c =

@@ -13,32 +13,19 @@ returns-then-mode-eq-NONE c = rw c.if-mode-eq-NONE.true
 pub returns-then-bad_list : goal.returns-then-bad_list
 unfolding lists_fault
 returns-then-bad_list c =
-    let b = c in
-    rw (ne_eqb _ _ b.if-mode-eq-NONE.false, sym b.bad_list.ensures ∙ c.if-bad_list.true)
+    rw (ne_eqb _ _ c.if-mode-eq-NONE.false, sym c.bad_list.ensures ∙ c.if-bad_list.true)
 
 pub returns-then-mode-eq-FAST : goal.returns-then-mode-eq-FAST
 unfolding lists_fault
 returns-then-mode-eq-FAST c =
-    let e = c in
-    let b = e in
-    rw (ne_eqb _ _ b.if-mode-eq-NONE.false, sym b.bad_list.ensures ∙ e.if-bad_list.false, c.if-mode-eq-FAST.true)
+    rw (ne_eqb _ _ c.if-mode-eq-NONE.false, sym c.bad_list.ensures ∙ c.if-bad_list.false, c.if-mode-eq-FAST.true)
 
 pub returns-then-i-t : goal.returns-then-i-t
 unfolding lists_fault
 returns-then-i-t c =
-    let t = c in
-    let i = t in
-    let f = i in
-    let e = f in
-    let b = e in
-    rw (ne_eqb _ _ b.if-mode-eq-NONE.false, sym b.bad_list.ensures ∙ e.if-bad_list.false, ne_eqb _ _ f.if-mode-eq-FAST.false, rw (i.bad_list-i.ensures, t.bad_list-t.ensures) at c.if-i-t.true)
+    rw (ne_eqb _ _ c.if-mode-eq-NONE.false, sym c.bad_list.ensures ∙ c.if-bad_list.false, ne_eqb _ _ c.if-mode-eq-FAST.false, rw (c.bad_list-i.ensures, c.bad_list-t.ensures) at c.if-i-t.true)
 
 pub returns : goal.returns
 unfolding lists_fault
 returns c =
-    let t = c in
-    let i = t in
-    let f = i in
-    let e = f in
-    let b = e in
-    rw (ne_eqb _ _ b.if-mode-eq-NONE.false, sym b.bad_list.ensures ∙ e.if-bad_list.false, ne_eqb _ _ f.if-mode-eq-FAST.false, rw (i.bad_list-i.ensures, t.bad_list-t.ensures) at c.if-i-t.false)
+    rw (ne_eqb _ _ c.if-mode-eq-NONE.false, sym c.bad_list.ensures ∙ c.if-bad_list.false, ne_eqb _ _ c.if-mode-eq-FAST.false, rw (c.bad_list-i.ensures, c.bad_list-t.ensures) at c.if-i-t.false)

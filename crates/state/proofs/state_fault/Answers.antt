@@ -25,8 +25,7 @@ returns-then-any_forbidden_entry c =
     let same : unfit c.args.s.settings (length (content c.args.s.deque)) c.args.s.offset c.args.s.last_number ≡ unfit c.args.s.settings c.args.s.deque.count c.args.s.offset c.args.s.last_number = let s = c.args.s in
     let r : length s.deque.entries ≡ room = state_room s _ c.well_formed.0 in
     rw (long_min s.deque r) (unfit_min s.settings s.deque.count s.offset s.last_number) in
-    let b = c in
-    rw (same, sym b.is_unfit.ensures ∙ c.if-is_unfit.false, sym c.any_forbidden_entry.ensures ∙ c.if-any_forbidden_entry.true)
+    rw (same, sym c.is_unfit.ensures ∙ c.if-is_unfit.false, sym c.any_forbidden_entry.ensures ∙ c.if-any_forbidden_entry.true)
 
 pub returns-then-is_misnumbered : goal.returns-then-is_misnumbered
 unfolding state_fault
@@ -36,7 +35,6 @@ returns-then-is_misnumbered c =
     rw (long_min s.deque r) (unfit_min s.settings s.deque.count s.offset s.last_number) in
     let fits : unfit c.args.s.settings (length (content c.args.s.deque)) c.args.s.offset c.args.s.last_number ≡ false = same ∙ sym c.is_unfit.ensures ∙ c.if-is_unfit.false in
     let sound : cost_forbidden (content c.args.s.deque) ≡ false = sym c.any_forbidden_entry.ensures ∙ c.if-any_forbidden_entry.false in
-    let f = c in
     rw (fits, sound, sym c.is_misnumbered.ensures ∙ c.if-is_misnumbered.true)
 
 pub returns-then-is_front_astray : goal.returns-then-is_front_astray
@@ -47,9 +45,7 @@ returns-then-is_front_astray c =
     rw (long_min s.deque r) (unfit_min s.settings s.deque.count s.offset s.last_number) in
     let fits : unfit c.args.s.settings (length (content c.args.s.deque)) c.args.s.offset c.args.s.last_number ≡ false = same ∙ sym c.is_unfit.ensures ∙ c.if-is_unfit.false in
     let sound : cost_forbidden (content c.args.s.deque) ≡ false = sym c.any_forbidden_entry.ensures ∙ c.if-any_forbidden_entry.false in
-    let m = c in
-    let f = m in
-    rw (fits, sound, sym m.is_misnumbered.ensures ∙ m.if-is_misnumbered.false, sym c.is_front_astray.ensures ∙ c.if-is_front_astray.true)
+    rw (fits, sound, sym c.is_misnumbered.ensures ∙ c.if-is_misnumbered.false, sym c.is_front_astray.ensures ∙ c.if-is_front_astray.true)
 
 pub returns : goal.returns
 unfolding state_fault
@@ -59,6 +55,4 @@ returns c =
     rw (long_min s.deque r) (unfit_min s.settings s.deque.count s.offset s.last_number) in
     let fits : unfit c.args.s.settings (length (content c.args.s.deque)) c.args.s.offset c.args.s.last_number ≡ false = same ∙ sym c.is_unfit.ensures ∙ c.if-is_unfit.false in
     let sound : cost_forbidden (content c.args.s.deque) ≡ false = sym c.any_forbidden_entry.ensures ∙ c.if-any_forbidden_entry.false in
-    let m = c in
-    let f = m in
-    rw (fits, sound, sym m.is_misnumbered.ensures ∙ m.if-is_misnumbered.false, sym c.is_front_astray.ensures ∙ c.if-is_front_astray.false)
+    rw (fits, sound, sym c.is_misnumbered.ensures ∙ c.if-is_misnumbered.false, sym c.is_front_astray.ensures ∙ c.if-is_front_astray.false)

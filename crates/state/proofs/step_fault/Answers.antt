@@ -23,10 +23,8 @@ unfolding step_fault
 returns-then-long-ne0 c =
     let pass1 : 0 ≡ state_fault (view c.args.s) = sym c.if-state-ne0.false ∙ c.state_fault-state.ensures in
     let pass2 : 0 ≡ number_fault c.args.s.last_number c.args.n c.args.p = sym c.if-number-ne0.false ∙ c.number_fault-number.ensures in
-    let st = c in
-    let e2 = st in
     or_later _ _ _ pass1
-    (or_later _ _ _ pass2 (or_given _ _ _ st.length_fault-long.ensures c.if-long-ne0.true))
+    (or_later _ _ _ pass2 (or_given _ _ _ c.length_fault-long.ensures c.if-long-ne0.true))
 
 pub returns-then-stop-ne0 : goal.returns-then-stop-ne0
 unfolding step_fault
@@ -34,10 +32,8 @@ returns-then-stop-ne0 c =
     let pass1 : 0 ≡ state_fault (view c.args.s) = sym c.if-state-ne0.false ∙ c.state_fault-state.ensures in
     let pass2 : 0 ≡ number_fault c.args.s.last_number c.args.n c.args.p = sym c.if-number-ne0.false ∙ c.number_fault-number.ensures in
     let pass3 : 0 ≡ length_fault (((c))).args.s.last_number (((c))).args.s.last_length (((c))).args.length = sym c.if-long-ne0.false ∙ c.length_fault-long.ensures in
-    let e3 = c in
-    let e2 = e3 in
     or_later _ _ _ pass1
-    (or_later _ _ _ pass2 (or_later _ _ _ pass3 (or_given _ _ _ e3.stop_fault-stop.ensures c.if-stop-ne0.true)))
+    (or_later _ _ _ pass2 (or_later _ _ _ pass3 (or_given _ _ _ c.stop_fault-stop.ensures c.if-stop-ne0.true)))
 
 pub returns : goal.returns
 unfolding step_fault
@@ -46,10 +42,7 @@ returns c =
     let pass2 : 0 ≡ number_fault c.args.s.last_number c.args.n c.args.p = sym c.if-number-ne0.false ∙ c.number_fault-number.ensures in
     let pass3 : 0 ≡ length_fault (((c))).args.s.last_number (((c))).args.s.last_length (((c))).args.length = sym c.if-long-ne0.false ∙ c.length_fault-long.ensures in
     let pass4 : 0 ≡ stop_fault (((c))).args.s.settings (((c))).args.s.offset (((c))).args.length = sym c.if-stop-ne0.false ∙ c.stop_fault-stop.ensures in
-    let e4 = c in
-    let e3 = e4 in
-    let e2 = e3 in
-    let s = e2.args in
+    let s = c.args in
     let lists = ap (λ (k : ℕ). lists_fault s.s.settings k s.inter.now s.importance.now s.threshold.now) c.items_of.ensures in
     or_later _ _ _ pass1
     (or_later _ _ _ pass2 (or_later _ _ _ pass3 (or_later _ _ _ pass4 (c.lists_fault.ensures ∙ lists))))

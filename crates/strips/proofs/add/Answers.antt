@@ -24,6 +24,7 @@ returns-then-unfit-ne0 c =
 
 pub lent_carry-c-requires : goal.lent_carry-c-requires
 lent_carry-c-requires c =
+    -- past the first test the carry is one, and fit
     let passes : 0 ≡ carry_fault c.args.carry.now = sym c.if-unfit-ne0.false ∙ c.carry_fault-unfit.ensures in
     (carry_passed _ (sym passes)).0
 
@@ -36,48 +37,37 @@ shape_fault-fault-requires c =
 pub returns-then-fault-ne0 : goal.returns-then-fault-ne0
 returns-then-fault-ne0 c =
     let passes : 0 ≡ carry_fault c.args.carry.now = sym c.if-unfit-ne0.false ∙ c.carry_fault-unfit.ensures in
-    let b = c in
-    let l = b in
-    let both = shape_refused byte _ _ _ _ l.lent_carry-c.ensures b.byte_fault-word.ensures passes _ c.shape_fault-fault.ensures c.if-fault-ne0.true in
+    let both = shape_refused byte _ _ _ _ c.lent_carry-c.ensures c.byte_fault-word.ensures passes _ c.shape_fault-fault.ensures c.if-fault-ne0.true in
     record { result_value = both.0; costs_after = both.1 }
 
 pub strip_difference-requires : goal.strip_difference-requires
 strip_difference-requires c =
     let passes : 0 ≡ carry_fault c.args.carry.now = sym c.if-unfit-ne0.false ∙ c.carry_fault-unfit.ensures in
     let unfit : carry_unfit c.lent_carry-c.result ≡ false = ap carry_unfit c.lent_carry-c.ensures ∙ (carry_passed _ (sym passes)).1 in
-    let shaped : let l = c in let g = l.args in Taken byte l.lent_carry-c.result g.p (length g.a.now) g.q (length g.b.now) (length g.room.now) (length g.costs.now) = let f = c in
-    let b = f in
-    let l = b in
-    let g = l.args in
-    taken_known byte l.lent_carry-c.result g.p (length g.a.now) g.q (length g.b.now) (length g.room.now) (length g.costs.now) unfit
-    (rw (← b.byte_fault-word.ensures) (sym f.shape_fault-fault.ensures ∙ c.if-fault-ne0.false)) in
+    -- past the second the shapes fit
+    let shaped : let g = c.args in Taken byte c.lent_carry-c.result g.p (length g.a.now) g.q (length g.b.now) (length g.room.now) (length g.costs.now) = let g = c.args in
+    taken_known byte c.lent_carry-c.result g.p (length g.a.now) g.q (length g.b.now) (length g.room.now) (length g.costs.now) unfit
+    (rw (← c.byte_fault-word.ensures) (sym c.shape_fault-fault.ensures ∙ c.if-fault-ne0.false)) in
     let t = shaped in record { b_value = shapes_pass byte _ _ _ _ _ _ _ t; height_value = t.heights }
 
 pub returns-in_default : goal.returns-in_default
 returns-in_default c =
     let passes : 0 ≡ carry_fault c.args.carry.now = sym c.if-unfit-ne0.false ∙ c.carry_fault-unfit.ensures in
-    let large : Bool = let l = c in
-    let g = l.args in
-    too_large l.lent_carry-c.result.depth g.p g.a.now || too_large l.lent_carry-c.result.depth g.q g.b.now in
+    -- whether a sample of the strips is too large, and their difference
+    let large : Bool = let g = c.args in
+    too_large c.lent_carry-c.result.depth g.p g.a.now || too_large c.lent_carry-c.result.depth g.q g.b.now in
     let difference : ℕ = let g = c.args in plane_sad g.p g.a.now g.q g.b.now in
-    let d = c in
-    let f = d in
-    let b = f in
-    let l = b in
-    let both = sample_refused byte _ _ _ _ l.lent_carry-c.ensures b.byte_fault-word.ensures passes (sym d.if-fault-ne0.false ∙ f.shape_fault-fault.ensures)
-    (refused_given large difference _ d.strip_difference.ensures _ c.in_default.is) in
+    let both = sample_refused byte _ _ _ _ c.lent_carry-c.ensures c.byte_fault-word.ensures passes (sym c.if-fault-ne0.false ∙ c.shape_fault-fault.ensures)
+    (refused_given large difference _ c.strip_difference.ensures _ c.in_default.is) in
     record { result_value = both.0; costs_after = both.1 }
 
 pub add_rows-importance-requires : goal.add_rows-importance-requires
 add_rows-importance-requires c =
     let passes : 0 ≡ carry_fault c.args.carry.now = sym c.if-unfit-ne0.false ∙ c.carry_fault-unfit.ensures in
     let unfit : carry_unfit c.lent_carry-c.result ≡ false = ap carry_unfit c.lent_carry-c.ensures ∙ (carry_passed _ (sym passes)).1 in
-    let shaped : let l = c in let g = l.args in Taken byte l.lent_carry-c.result g.p (length g.a.now) g.q (length g.b.now) (length g.room.now) (length g.costs.now) = let f = c in
-    let b = f in
-    let l = b in
-    let g = l.args in
-    taken_known byte l.lent_carry-c.result g.p (length g.a.now) g.q (length g.b.now) (length g.room.now) (length g.costs.now) unfit
-    (rw (← b.byte_fault-word.ensures) (sym f.shape_fault-fault.ensures ∙ c.if-fault-ne0.false)) in
+    let shaped : let g = c.args in Taken byte c.lent_carry-c.result g.p (length g.a.now) g.q (length g.b.now) (length g.room.now) (length g.costs.now) = let g = c.args in
+    taken_known byte c.lent_carry-c.result g.p (length g.a.now) g.q (length g.b.now) (length g.room.now) (length g.costs.now) unfit
+    (rw (← c.byte_fault-word.ensures) (sym c.shape_fault-fault.ensures ∙ c.if-fault-ne0.false)) in
     shaped
 
 pub came-next-requires : goal.came-next-requires
@@ -94,10 +84,9 @@ came-next-requires c =
     let g = l.args in
     too_large l.lent_carry-c.result.depth g.p g.a.now || too_large l.lent_carry-c.result.depth g.q g.b.now in
     let difference : ℕ = let g = c.args in plane_sad g.p g.a.now g.q g.b.now in
-    let more-is : let d = c in (0 ≡ refusal 16 large) × (c.in-Number.more ≡ difference) = let d = c in number_given large difference _ c.strip_difference.ensures _ c.in-Number.is in
-    let m = c in
+    let more-is : (0 ≡ refusal 16 large) × (c.in-Number.more ≡ difference) = number_given large difference _ c.strip_difference.ensures _ c.in-Number.is in
     let t = shaped in
-    let l = m in
+    let l = c in
     let f = l in
     let g = l.args in
     let n = more-is in
@@ -107,27 +96,16 @@ came-next-requires c =
 pub put_carry-requires : goal.put_carry-requires
 put_carry-requires c =
     let passes : 0 ≡ carry_fault c.args.carry.now = sym c.if-unfit-ne0.false ∙ c.carry_fault-unfit.ensures in
-    let m = c in
-    let l = m in
     (carry_passed _ (sym passes)).0
 
 pub returns : goal.returns
 returns c =
     let passes : 0 ≡ carry_fault c.args.carry.now = sym c.if-unfit-ne0.false ∙ c.carry_fault-unfit.ensures in
-    let large : Bool = let l = c in
-    let g = l.args in
-    too_large l.lent_carry-c.result.depth g.p g.a.now || too_large l.lent_carry-c.result.depth g.q g.b.now in
+    let large : Bool = let g = c.args in
+    too_large c.lent_carry-c.result.depth g.p g.a.now || too_large c.lent_carry-c.result.depth g.q g.b.now in
     let difference : ℕ = let g = c.args in plane_sad g.p g.a.now g.q g.b.now in
-    let more-is : let d = c in (0 ≡ refusal 16 large) × (c.in-Number.more ≡ difference) = let d = c in number_given large difference _ c.strip_difference.ensures _ c.in-Number.is in
-    let p = c in
-    let k = p in
-    let r = k in
-    let m = r in
-    let d = m in
-    let f = d in
-    let b = f in
-    let l = b in
-    let e = l.lent_carry-c.ensures in
+    let more-is : (0 ≡ refusal 16 large) × (c.in-Number.more ≡ difference) = number_given large difference _ c.strip_difference.ensures _ c.in-Number.is in
+    let e = c.lent_carry-c.ensures in
     let fit = passes in
     let n = more-is in
-    let none = accepted byte _ _ _ _ e b.byte_fault-word.ensures fit (sym d.if-fault-ne0.false ∙ f.shape_fault-fault.ensures) n.0 in record { result_value = answer_given _ _ _ none (ap (λ (x : Carry). x.rows) k.came-next.ensures ∙ ap (λ (x : Carry). x.rows + l.args.p.height) e); costs_after = all_taken byte _ _ _ l.lent_carry-c.result e b.byte_fault-word.ensures fit none _ _ _ _ _ _ n.1 r.add_rows-importance.ensures k.came-next.ensures p.put_carry.ensures }
+    let none = accepted byte _ _ _ _ e c.byte_fault-word.ensures fit (sym c.if-fault-ne0.false ∙ c.shape_fault-fault.ensures) n.0 in record { result_value = answer_given _ _ _ none (ap (λ (x : Carry). x.rows) c.came-next.ensures ∙ ap (λ (x : Carry). x.rows + c.args.p.height) e); costs_after = all_taken byte _ _ _ c.lent_carry-c.result e c.byte_fault-word.ensures fit none _ _ _ _ _ _ n.1 c.add_rows-importance.ensures c.came-next.ensures c.put_carry.ensures }

@@ -1,6 +1,6 @@
 -- `strips::add_rows` meets its contract. After j turns the room, the list and the total are as the first j rows leave them. Assumes nothing.
 use mathlib.Core.Path.{refl, ap, ◌∙◌}
-use Prim.Native.Nat.{ℕ, ◌-◌}
+use Prim.Native.Nat.{ℕ}
 use native.Mathlib.Omega.{arith}
 use Rattle.plane.specs.Planes.{byte}
 use Rattle.strips.specs.Needs.{held}
@@ -12,27 +12,21 @@ use Rattle.strips.proofs.add_rows.Goals as goal
 
 pub loop-j-init : goal.loop-j-init
 loop-j-init c =
-    let s = c in
-    (refl, omega arith, taken_none byte s.args.c _ _ s.requires.carry s.requires.carry.importance)
+    (refl, omega arith, taken_none byte c.args.c _ _ c.requires.carry c.requires.carry.importance)
 
 pub add_row-total-requires : goal.add_row-total-requires
 add_row-total-requires c =
     let l = c.loop-j in
-    let s = c in
-    record { taken = taken_again byte s.args.c s.args.p _ s.args.q _ s.requires l.invariant.2.room l.invariant.2.costs; j_lt_height = omega arith }
+    record { taken = taken_again byte c.args.c c.args.p _ c.args.q _ c.requires l.invariant.2.room l.invariant.2.costs; j_lt_height = omega arith }
 
 pub overflow_add-total : goal.overflow_add-total
 overflow_add-total c =
-    let r = c in
-    let l = r in
-    let s = l in
-    omega (arith, l.loop-j.invariant.2.small, r.add_row-total.ensures.upper_bound, s.requires.rows, s.requires.carry.height_most)
+    omega (arith, c.loop-j.invariant.2.small, c.add_row-total.ensures.upper_bound, c.requires.rows, c.requires.carry.height_most)
 
 pub loop-j-preserved : goal.loop-j-preserved
 loop-j-preserved c =
-    let r = c in
-    let l = r.loop-j in
-    (refl, omega arith, taken_more byte _ _ _ l.j _ l.total l.room l.costs _ _ l.invariant.2 r.add_row-total.ensures.upper_bound r.add_row-total.ensures.by_index)
+    let l = c.loop-j in
+    (refl, omega arith, taken_more byte _ _ _ l.j _ l.total l.room l.costs _ _ l.invariant.2 c.add_row-total.ensures.upper_bound c.add_row-total.ensures.by_index)
 
 pub shape_of-room : goal.shape_of-room
 shape_of-room c = c.loop-j.invariant.2.room
@@ -43,7 +37,6 @@ shape_of-costs c = c.loop-j.invariant.2.costs
 pub returns : goal.returns
 returns c =
     let l = c.loop-j in
-    let s = c in
-    let g = s.args in
+    let g = c.args in
     l.invariant.2.is
     ∙ ap (λ (n : ℕ). held_rows byte g.c (strip g.p g.a.now g.q g.b.now) n (held g.c.importance g.room.now g.costs.now)) (omega arith)

@@ -15,40 +15,31 @@ use Rattle.strips.proofs.finish.Goals as goal
 
 pub returns-in_default : goal.returns-in_default
 returns-in_default c =
-    let total_is : let s = c.args in whole_answer c.importance_total.result ≡ total_of byte s.c.depth (held_first s.c) s.room.now (held_second s.c) s.room.now = let q = c in
-    let p = q in
-    let s = c.args in
+    -- the planes that are measured are the held ones
+    let total_is : let s = c.args in whole_answer c.importance_total.result ≡ total_of byte s.c.depth (held_first s.c) s.room.now (held_second s.c) s.room.now = let s = c.args in
     c.importance_total.ensures
-    ∙ ap (λ (f : Plane). total_of byte s.c.depth f s.room.now q.held_plane-q.result s.room.now) p.held_plane-p.ensures
-    ∙ ap (λ (f : Plane). total_of byte s.c.depth (held_first s.c) s.room.now f s.room.now) q.held_plane-q.ensures in
-    let costs_are : let s = c.args in let at = s.y * blocks_along s.c in put_mid at (length s.costs.now - at) s.costs.now c.plane_costs-count.new.costs ≡ blocks_costs byte s.c s.y s.room.now s.costs.now = let q = c in
-    let s = c in
+    ∙ ap (λ (f : Plane). total_of byte s.c.depth f s.room.now c.held_plane-q.result s.room.now) c.held_plane-p.ensures
+    ∙ ap (λ (f : Plane). total_of byte s.c.depth (held_first s.c) s.room.now f s.room.now) c.held_plane-q.ensures in
+    let costs_are : let s = c.args in let at = s.y * blocks_along s.c in put_mid at (length s.costs.now - at) s.costs.now c.plane_costs-count.new.costs ≡ blocks_costs byte s.c s.y s.room.now s.costs.now = let s = c in
     let g = s.args in
     let at = g.y * blocks_along g.c in
     costs_back byte g.c s.requires.sound g.room.now s.requires.c_in_bounds g.y g.costs.now s.requires.c_in_bounds_2 c.plane_costs-count.new.costs
     (c.plane_costs-count.ensures.costs_after
-    ∙ ap (λ (f : Plane). plane_costs_of byte g.c.depth f g.room.now (take (length g.costs.now - at) (drop at g.costs.now))) q.held_plane-q.ensures) in
-    let t = c in
-    let k = t in
-    let s = k in
+    ∙ ap (λ (f : Plane). plane_costs_of byte g.c.depth f g.room.now (take (length g.costs.now - at) (drop at g.costs.now))) c.held_plane-q.ensures) in
+    let s = c in
     record { value = rise_refused byte s.args.c s.requires.sound s.args.room.now s.requires.c_in_bounds _ total_is _ c.in_default.is; costs_after = costs_are }
 
 pub returns : goal.returns
 returns c =
-    let total_is : let s = c.args in whole_answer c.importance_total.result ≡ total_of byte s.c.depth (held_first s.c) s.room.now (held_second s.c) s.room.now = let q = c in
-    let p = q in
-    let s = c.args in
+    let total_is : let s = c.args in whole_answer c.importance_total.result ≡ total_of byte s.c.depth (held_first s.c) s.room.now (held_second s.c) s.room.now = let s = c.args in
     c.importance_total.ensures
-    ∙ ap (λ (f : Plane). total_of byte s.c.depth f s.room.now q.held_plane-q.result s.room.now) p.held_plane-p.ensures
-    ∙ ap (λ (f : Plane). total_of byte s.c.depth (held_first s.c) s.room.now f s.room.now) q.held_plane-q.ensures in
-    let costs_are : let s = c.args in let at = s.y * blocks_along s.c in put_mid at (length s.costs.now - at) s.costs.now c.plane_costs-count.new.costs ≡ blocks_costs byte s.c s.y s.room.now s.costs.now = let q = c in
-    let s = c in
+    ∙ ap (λ (f : Plane). total_of byte s.c.depth f s.room.now c.held_plane-q.result s.room.now) c.held_plane-p.ensures
+    ∙ ap (λ (f : Plane). total_of byte s.c.depth (held_first s.c) s.room.now f s.room.now) c.held_plane-q.ensures in
+    let costs_are : let s = c.args in let at = s.y * blocks_along s.c in put_mid at (length s.costs.now - at) s.costs.now c.plane_costs-count.new.costs ≡ blocks_costs byte s.c s.y s.room.now s.costs.now = let s = c in
     let g = s.args in
     let at = g.y * blocks_along g.c in
     costs_back byte g.c s.requires.sound g.room.now s.requires.c_in_bounds g.y g.costs.now s.requires.c_in_bounds_2 c.plane_costs-count.new.costs
     (c.plane_costs-count.ensures.costs_after
-    ∙ ap (λ (f : Plane). plane_costs_of byte g.c.depth f g.room.now (take (length g.costs.now - at) (drop at g.costs.now))) q.held_plane-q.ensures) in
-    let t = c in
-    let k = t in
-    let s = k in
+    ∙ ap (λ (f : Plane). plane_costs_of byte g.c.depth f g.room.now (take (length g.costs.now - at) (drop at g.costs.now))) c.held_plane-q.ensures) in
+    let s = c in
     record { value = rise_given byte s.args.c s.requires.sound s.args.room.now s.requires.c_in_bounds _ total_is _ c.in-Number.is; costs_after = costs_are }

@@ -14,28 +14,22 @@ returns-then-carry-ne-CARRY c =
 
 pub returns-then-fault-ne0 : goal.returns-then-fault-ne0
 returns-then-fault-ne0 c =
-    let d = c in
-    let e = start_depth _ _ _ _ d.if-carry-ne-CARRY.false _ d.depth_fault-fault.ensures c.if-fault-ne0.true in
+    let e = start_depth _ _ _ _ c.if-carry-ne-CARRY.false _ c.depth_fault-fault.ensures c.if-fault-ne0.true in
     record { result_value = answer_refused _ _ _ e c.if-fault-ne0.true; carry_after = lent_kept _ _ _ _ e c.if-fault-ne0.true }
 
 pub returns-then-bad_side : goal.returns-then-bad_side
 returns-then-bad_side c =
+    -- past the first two tests
     let deep-enough : 0 ≡ depth_fault c.args.depth = sym c.if-fault-ne0.false ∙ c.depth_fault-fault.ensures in
-    let k = c in
-    let d = k in
-    let s = d.args in
-    let t : bad_side s.width || bad_side s.height ≡ true = rw (← k.bad_side.ensures, ← k.bad_side-2.ensures) c.if-bad_side.true in
-    let e = start_sides _ _ _ _ d.if-carry-ne-CARRY.false deep-enough t in
+    let s = c.args in
+    let t : bad_side s.width || bad_side s.height ≡ true = rw (← c.bad_side.ensures, ← c.bad_side-2.ensures) c.if-bad_side.true in
+    let e = start_sides _ _ _ _ c.if-carry-ne-CARRY.false deep-enough t in
     record { result_value = answer_refused _ _ _ e (λ z. omega arith); carry_after = lent_kept _ _ _ _ e (λ z. omega arith) }
 
 pub returns : goal.returns
 returns c =
     let deep-enough : 0 ≡ depth_fault c.args.depth = sym c.if-fault-ne0.false ∙ c.depth_fault-fault.ensures in
-    let p = c in
-    let l = p in
-    let k = l in
-    let d = k in
-    let s = d.args in
-    let t : bad_side s.width || bad_side s.height ≡ false = rw (← k.bad_side.ensures, ← k.bad_side-2.ensures) l.if-bad_side.false in
-    let e = started _ _ _ _ d.if-carry-ne-CARRY.false deep-enough t in
-    record { result_value = answer_given _ _ _ e refl; carry_after = p.put_carry.ensures ∙ lent_written _ _ _ e }
+    let s = c.args in
+    let t : bad_side s.width || bad_side s.height ≡ false = rw (← c.bad_side.ensures, ← c.bad_side-2.ensures) c.if-bad_side.false in
+    let e = started _ _ _ _ c.if-carry-ne-CARRY.false deep-enough t in
+    record { result_value = answer_given _ _ _ e refl; carry_after = c.put_carry.ensures ∙ lent_written _ _ _ e }

@@ -1,5 +1,5 @@
 -- `sums::copy` meets its contract. After k turns the first k places are copied and every other is as it was. Assumes nothing.
-use Rattle.std.proofs.Common.{◌-◌, refl, arith, rules}
+use Rattle.std.proofs.Common.{refl, arith, rules}
 use Rattle.sums.proofs.Wrote.{front_none, front_more, copy_done}
 use Rattle.sums.proofs.copy.Goals as goal
 

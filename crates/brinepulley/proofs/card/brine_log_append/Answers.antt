@@ -19,12 +19,10 @@ holds b e = rw e tt
 
 pub whole-requires : goal.whole-requires
 whole-requires c =
-    let k = c in
-    let a = k.args in
+    let a = c.args in
     let r = record_by a.number a.inter a.importance a.backward a.forward a.threshold a.cut in
-    rw k.append.ensures.result_value (codable_answer _ _ (λ e. omega (arith, (append_leaves a.log.now a.used r e).fits)))
+    rw c.append.ensures.result_value (codable_answer _ _ (λ e. omega (arith, (append_leaves a.log.now a.used r e).fits)))
 
 pub returns : goal.returns
 returns c =
-    let k = c in
-    record { value = to_z-of_z {w = w64} (sfits_of c.whole.type_inv) ∙ c.whole.ensures ∙ ap coded k.append.ensures.result_value; log_after = k.append.ensures.log_after }
+    record { value = to_z-of_z {w = w64} (sfits_of c.whole.type_inv) ∙ c.whole.ensures ∙ ap coded c.append.ensures.result_value; log_after = c.append.ensures.log_after }

@@ -12,10 +12,8 @@ use Rattle.brinepulley.proofs.card.brine_log_read.Goals as goal
 
 pub whole-requires : goal.whole-requires
 whole-requires c =
-    let k = c in
-    rw k.read.ensures.result_value (codable_answer _ _ (λ e. omega arith))
+    rw c.read.ensures.result_value (codable_answer _ _ (λ e. omega arith))
 
 pub returns : goal.returns
 returns c =
-    let k = c in
-    record { value = to_z-of_z {w = w64} (sfits_of c.whole.type_inv) ∙ c.whole.ensures ∙ ap coded k.read.ensures.result_value; numbers_after = k.read.ensures.numbers_after; bits_after = k.read.ensures.bits_after; cuts_after = k.read.ensures.cuts_after; torn_after = k.read.ensures.torn_after }
+    record { value = to_z-of_z {w = w64} (sfits_of c.whole.type_inv) ∙ c.whole.ensures ∙ ap coded c.read.ensures.result_value; numbers_after = c.read.ensures.numbers_after; bits_after = c.read.ensures.bits_after; cuts_after = c.read.ensures.cuts_after; torn_after = c.read.ensures.torn_after }

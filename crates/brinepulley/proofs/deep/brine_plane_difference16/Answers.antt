@@ -13,13 +13,12 @@ use Rattle.brinepulley.proofs.deep.brine_plane_difference16.Goals as goal
 
 pub whole-requires : goal.whole-requires
 whole-requires c =
-    let k = c in
-    let s = k.args in
+    let s = c.args in
     let p : Plane = plane_by s.width s.height s.stride s.origin in
     let q : Plane = plane_by s.width2 s.height2 s.stride2 s.origin2 in
     rw c.plane_difference.ensures
     (difference_small word_most (omega arith) s.first.now s.second.now
-    (λ i. omega (arith, k.shared_slice_known-1.given i)) (λ i. omega (arith, k.shared_slice_known-2-1.given i)) deep s.depth p q)
+    (λ i. omega (arith, c.shared_slice_known-1.given i)) (λ i. omega (arith, c.shared_slice_known-2-1.given i)) deep s.depth p q)
 
 pub returns : goal.returns
 returns c = to_z-of_z {w = w64} (sfits_of c.whole.type_inv) ∙ c.whole.ensures ∙ ap coded c.plane_difference.ensures

@@ -11,13 +11,11 @@ use Rattle.brinepulley.proofs.sensor.brine_strips_add16.Goals as goal
 
 pub whole-requires : goal.whole-requires
 whole-requires c =
-    let k = c in
-    let g = k.args in
-    rw k.add.ensures.result_value
+    let g = c.args in
+    rw c.add.ensures.result_value
     (rows_come_small deep (kept g.carry.now g.room.now g.costs.now)
     (strip (plane_by g.width g.height g.stride g.origin) g.first.now (plane_by g.width2 g.height2 g.stride2 g.origin2) g.second.now))
 
 pub returns : goal.returns
 returns c =
-    let k = c in
-    record { value = to_z-of_z {w = w64} (sfits_of c.whole.type_inv) ∙ c.whole.ensures ∙ ap coded k.add.ensures.result_value; costs_after = k.add.ensures.costs_after }
+    record { value = to_z-of_z {w = w64} (sfits_of c.whole.type_inv) ∙ c.whole.ensures ∙ ap coded c.add.ensures.result_value; costs_after = c.add.ensures.costs_after }

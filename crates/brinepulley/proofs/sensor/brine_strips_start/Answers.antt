@@ -9,11 +9,9 @@ use Rattle.brinepulley.proofs.sensor.brine_strips_start.Goals as goal
 
 pub whole-requires : goal.whole-requires
 whole-requires c =
-    let k = c in
-    let g = k.args in
-    rw k.start.ensures.result_value (start_small g.depth g.width g.height g.carry.now)
+    let g = c.args in
+    rw c.start.ensures.result_value (start_small g.depth g.width g.height g.carry.now)
 
 pub returns : goal.returns
 returns c =
-    let k = c in
-    record { value = to_z-of_z {w = w64} (sfits_of c.whole.type_inv) ∙ c.whole.ensures ∙ ap coded k.start.ensures.result_value; carry_after = k.start.ensures.carry_after }
+    record { value = to_z-of_z {w = w64} (sfits_of c.whole.type_inv) ∙ c.whole.ensures ∙ ap coded c.start.ensures.result_value; carry_after = c.start.ensures.carry_after }

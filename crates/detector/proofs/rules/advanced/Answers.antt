@@ -17,30 +17,22 @@ use Rattle.detector.proofs.rules.advanced.Goals as goal
 
 pub measure_at-first-requires : goal.measure_at-first-requires
 measure_at-first-requires c =
-    let t = c in
-    let s = t in
-    let l = t.if-o-length.true in
-    record { costs = omega (arith, s.requires.covers.costs); rest = λ e. omega (arith, s.requires.covers.rest e) }
+    let l = c.if-o-length.true in
+    record { costs = omega (arith, c.requires.covers.costs); rest = λ e. omega (arith, c.requires.covers.rest e) }
 
 pub returns-then-o-length : goal.returns-then-o-length
 returns-then-o-length c =
-    let again = c in
-    let measured = again in
-    let sc = measured in
-    let level = sc in
-    let t = level in
-    let s = t in
-    let a = s.args in
+    let a = c.args in
     let g = a.g in
     let q = a.q in
     let m = again_of (q.again && is_scaled g) (measure_of (is_fast g) a.inter.now a.importance.now a.threshold.now q.offset) in
     let x = score_of (is_fast g) (fast_threshold g) q.offset (a.n + q.offset) m (content q.deque) in
-    let fits : length (content q.deque) < room = s.requires.ready.0.few in
+    let fits : length (content q.deque) < room = c.requires.ready.0.few in
     let e : content c.run_comparison-e.result ≡ x
     = entries_of_lem c.run_comparison-e.result _ c.run_comparison-e.ensures
-    ∙ rw (again.measured_again-m.ensures, measured.measure_at-first.ensures, sc.scaled-scaled.ensures, level.fast_threshold-level.ensures)
+    ∙ rw (c.measured_again-m.ensures, c.measure_at-first.ensures, c.scaled-scaled.ensures, c.fast_threshold-level.ensures)
     (score_kept (fast_threshold g) q.offset (a.n + q.offset) m (content q.deque) (is_fast g) fits) in
-    rw (lt-ltb _ _ t.if-o-length.true, e)
+    rw (lt-ltb _ _ c.if-o-length.true, e)
 
 pub overflow_sub-result : goal.overflow_sub-result
 overflow_sub-result c = c.requires.ready.0.falls c.if-o-length.false

@@ -1,6 +1,6 @@
 -- `importance::deep::all_differences` meets its contract. After y turns the total is that of the first y rows of blocks, and none of their samples is too large. Assumes nothing.
 use mathlib.Core.Path.{refl, sym, ◌∙◌}
-use Prim.Native.Nat.{◌-◌, ◌<◌}
+use Prim.Native.Nat.{◌<◌}
 use native.Mathlib.Omega.{arith}
 use Rattle.answer.proofs.Laws.{or_no}
 use Rattle.plane.specs.Blocks.{blocks_down}
@@ -13,16 +13,14 @@ use Rattle.importance.proofs.deep.all_differences.Goals as goal
 -- a look that found nothing leaves small samples
 pub blocks_difference-total-requires : goal.blocks_difference-total-requires
 blocks_difference-total-requires c =
-    let l = c in
-    let s = l in
-    let h = pair _ _ _ _ s.requires.b_value in
+    let h = pair _ _ _ _ c.requires.b_value in
     let none = or_no _ _ (sym c.any_large.ensures ∙ c.if-any_large.false) in
-    let y< : l.loop-y.y < blocks_down s.args.p = omega arith in record {
-      b_value = s.requires.b_value;
+    let y< : c.loop-y.y < blocks_down c.args.p = omega arith in record {
+      b_value = c.requires.b_value;
       y_bound = y<;
       small_blocks = (
-        small_blocks s.args.depth s.args.p s.args.a.now l.loop-y.y s.requires.depth_value h.first y< none.0,
-        small_blocks s.args.depth s.args.q s.args.b.now l.loop-y.y s.requires.depth_value h.second (omega (arith, h.heights)) none.1,
+        small_blocks c.args.depth c.args.p c.args.a.now c.loop-y.y c.requires.depth_value h.first y< none.0,
+        small_blocks c.args.depth c.args.q c.args.b.now c.loop-y.y c.requires.depth_value h.second (omega (arith, h.heights)) none.1,
       );
     }
 
@@ -35,20 +33,14 @@ returns-then-any_large c = look_refused _ _ _ _ _ c.requires.b_value _ _ c.loop-
 
 pub overflow_add-total : goal.overflow_add-total
 overflow_add-total c =
-    let turn : let l = c in let s = l in LookTurn s.args.depth s.args.p s.args.a.now s.args.q s.args.b.now s.requires.b_value l.loop-y.total l.loop-y.y l.loop-y.invariant c.blocks_difference-total.result = let e = c in
-    let l = e in
-    let k = l in
-    look_turn _ _ _ _ _ k.requires.b_value _ _ l.loop-y.invariant word_most (omega arith) (λ i. omega (arith, k.shared_slice_known-1.given i))
-    (λ i. omega (arith, k.shared_slice_known-2-1.given i)) _ (omega arith) (sym e.any_large.ensures ∙ c.if-any_large.false) c.blocks_difference-total.ensures in
+    let turn : LookTurn c.args.depth c.args.p c.args.a.now c.args.q c.args.b.now c.requires.b_value c.loop-y.total c.loop-y.y c.loop-y.invariant c.blocks_difference-total.result = look_turn _ _ _ _ _ c.requires.b_value _ _ c.loop-y.invariant word_most (omega arith) (λ i. omega (arith, c.shared_slice_known-1.given i))
+    (λ i. omega (arith, c.shared_slice_known-2-1.given i)) _ (omega arith) (sym c.any_large.ensures ∙ c.if-any_large.false) c.blocks_difference-total.ensures in
     omega (arith, turn.1)
 
 pub loop-y-preserved : goal.loop-y-preserved
 loop-y-preserved c =
-    let turn : let l = c in let s = l in LookTurn s.args.depth s.args.p s.args.a.now s.args.q s.args.b.now s.requires.b_value l.loop-y.total l.loop-y.y l.loop-y.invariant c.blocks_difference-total.result = let e = c in
-    let l = e in
-    let k = l in
-    look_turn _ _ _ _ _ k.requires.b_value _ _ l.loop-y.invariant word_most (omega arith) (λ i. omega (arith, k.shared_slice_known-1.given i))
-    (λ i. omega (arith, k.shared_slice_known-2-1.given i)) _ (omega arith) (sym e.any_large.ensures ∙ c.if-any_large.false) c.blocks_difference-total.ensures in
+    let turn : LookTurn c.args.depth c.args.p c.args.a.now c.args.q c.args.b.now c.requires.b_value c.loop-y.total c.loop-y.y c.loop-y.invariant c.blocks_difference-total.result = look_turn _ _ _ _ _ c.requires.b_value _ _ c.loop-y.invariant word_most (omega arith) (λ i. omega (arith, c.shared_slice_known-1.given i))
+    (λ i. omega (arith, c.shared_slice_known-2-1.given i)) _ (omega arith) (sym c.any_large.ensures ∙ c.if-any_large.false) c.blocks_difference-total.ensures in
     turn.0
 
 pub returns-then-any_large-2 : goal.returns-then-any_large-2

@@ -1,5 +1,5 @@
 -- `importance::deep::blocks_difference` meets its contract. After x turns the total is that of the first x blocks, and a block that is whole lies within the samples. Assumes nothing.
-use Prim.Native.Nat.{◌+◌, ◌*◌, ◌-◌}
+use Prim.Native.Nat.{◌+◌, ◌*◌}
 use native.Mathlib.Omega.{arith}
 use borrow.Author.Rules.{rules}
 use Rattle.plane.specs.Blocks.{block_side}
@@ -16,12 +16,12 @@ loop-x-init c = (search rules, sum_none _)
 
 pub overflow_mul-x : goal.overflow_mul-x
 overflow_mul-x c =
-    let row : let s = c.args in BlocksRow word_most s.p s.a.now s.q s.b.now s.y c.block_row-start.result c.block_row-start2.result = let k = c in
-    record {
+    -- the row of blocks, once it is known where it starts
+    let row : let s = c.args in BlocksRow word_most s.p s.a.now s.q s.b.now s.y c.block_row-start.result c.block_row-start2.result = record {
       small = omega arith;
-      most = λ i. omega (arith, k.shared_slice_known-1.given i);
-      most2 = λ i. omega (arith, k.shared_slice_known-2-1.given i);
-      given = (k.requires.b_value, k.requires.y_bound);
+      most = λ i. omega (arith, c.shared_slice_known-1.given i);
+      most2 = λ i. omega (arith, c.shared_slice_known-2-1.given i);
+      given = (c.requires.b_value, c.requires.y_bound);
       starts = c.block_row-start.ensures;
       starts2 = c.block_row-start2.ensures;
     } in
@@ -30,12 +30,11 @@ overflow_mul-x c =
 
 pub overflow_add-start : goal.overflow_add-start
 overflow_add-start c =
-    let row : let s = c.args in BlocksRow word_most s.p s.a.now s.q s.b.now s.y c.block_row-start.result c.block_row-start2.result = let k = c in
-    record {
+    let row : let s = c.args in BlocksRow word_most s.p s.a.now s.q s.b.now s.y c.block_row-start.result c.block_row-start2.result = record {
       small = omega arith;
-      most = λ i. omega (arith, k.shared_slice_known-1.given i);
-      most2 = λ i. omega (arith, k.shared_slice_known-2-1.given i);
-      given = (k.requires.b_value, k.requires.y_bound);
+      most = λ i. omega (arith, c.shared_slice_known-1.given i);
+      most2 = λ i. omega (arith, c.shared_slice_known-2-1.given i);
+      given = (c.requires.b_value, c.requires.y_bound);
       starts = c.block_row-start.ensures;
       starts2 = c.block_row-start2.ensures;
     } in
@@ -44,33 +43,31 @@ overflow_add-start c =
 
 pub sum_8x8_block-org-requires : goal.sum_8x8_block-org-requires
 sum_8x8_block-org-requires c =
-    let row : let s = c.args in BlocksRow word_most s.p s.a.now s.q s.b.now s.y c.block_row-start.result c.block_row-start2.result = let k = c in
-    record {
+    let row : let s = c.args in BlocksRow word_most s.p s.a.now s.q s.b.now s.y c.block_row-start.result c.block_row-start2.result = record {
       small = omega arith;
-      most = λ i. omega (arith, k.shared_slice_known-1.given i);
-      most2 = λ i. omega (arith, k.shared_slice_known-2-1.given i);
-      given = (k.requires.b_value, k.requires.y_bound);
+      most = λ i. omega (arith, c.shared_slice_known-1.given i);
+      most2 = λ i. omega (arith, c.shared_slice_known-2-1.given i);
+      given = (c.requires.b_value, c.requires.y_bound);
       starts = c.block_row-start.ensures;
       starts2 = c.block_row-start2.ensures;
     } in
     let inside : BlocksIn row c.loop-x.x = blocks_in_lem row c.loop-x.x (omega arith) in
-    let smalls : let r = c in let s = r.args in let x = c.loop-x.x in SmallRows s.a.now (r.block_row-start.result + x * block_side) s.p.stride block_side × SmallRows s.b.now (r.block_row-start2.result + x * block_side) s.q.stride block_side = let r = c in
-    let s = r in
+    -- and its samples are small
+    let smalls : let s = c.args in let x = c.loop-x.x in SmallRows s.a.now (c.block_row-start.result + x * block_side) s.p.stride block_side × SmallRows s.b.now (c.block_row-start2.result + x * block_side) s.q.stride block_side = let s = c in
     let h = pair _ _ _ _ s.requires.b_value in
     let x = c.loop-x.x in (
-      small_block s.args.p s.args.a.now s.args.y x _ h.first s.requires.y_bound (omega arith) r.block_row-start.ensures s.requires.small_blocks.0,
-      small_block s.args.q s.args.b.now s.args.y x _ h.second (omega (arith, h.heights, s.requires.y_bound)) (omega (arith, h.widths)) r.block_row-start2.ensures s.requires.small_blocks.1,
+      small_block s.args.p s.args.a.now s.args.y x _ h.first s.requires.y_bound (omega arith) c.block_row-start.ensures s.requires.small_blocks.0,
+      small_block s.args.q s.args.b.now s.args.y x _ h.second (omega (arith, h.heights, s.requires.y_bound)) (omega (arith, h.widths)) c.block_row-start2.ensures s.requires.small_blocks.1,
     ) in
     record { by_index = λ j h. (inside j h).0; small_rows = smalls.0 }
 
 pub overflow_mul-x-in-loop-x : goal.overflow_mul-x-in-loop-x
 overflow_mul-x-in-loop-x c =
-    let row : let s = c.args in BlocksRow word_most s.p s.a.now s.q s.b.now s.y c.block_row-start.result c.block_row-start2.result = let k = c in
-    record {
+    let row : let s = c.args in BlocksRow word_most s.p s.a.now s.q s.b.now s.y c.block_row-start.result c.block_row-start2.result = record {
       small = omega arith;
-      most = λ i. omega (arith, k.shared_slice_known-1.given i);
-      most2 = λ i. omega (arith, k.shared_slice_known-2-1.given i);
-      given = (k.requires.b_value, k.requires.y_bound);
+      most = λ i. omega (arith, c.shared_slice_known-1.given i);
+      most2 = λ i. omega (arith, c.shared_slice_known-2-1.given i);
+      given = (c.requires.b_value, c.requires.y_bound);
       starts = c.block_row-start.ensures;
       starts2 = c.block_row-start2.ensures;
     } in
@@ -79,12 +76,11 @@ overflow_mul-x-in-loop-x c =
 
 pub overflow_add-start2 : goal.overflow_add-start2
 overflow_add-start2 c =
-    let row : let s = c.args in BlocksRow word_most s.p s.a.now s.q s.b.now s.y c.block_row-start.result c.block_row-start2.result = let k = c in
-    record {
+    let row : let s = c.args in BlocksRow word_most s.p s.a.now s.q s.b.now s.y c.block_row-start.result c.block_row-start2.result = record {
       small = omega arith;
-      most = λ i. omega (arith, k.shared_slice_known-1.given i);
-      most2 = λ i. omega (arith, k.shared_slice_known-2-1.given i);
-      given = (k.requires.b_value, k.requires.y_bound);
+      most = λ i. omega (arith, c.shared_slice_known-1.given i);
+      most2 = λ i. omega (arith, c.shared_slice_known-2-1.given i);
+      given = (c.requires.b_value, c.requires.y_bound);
       starts = c.block_row-start.ensures;
       starts2 = c.block_row-start2.ensures;
     } in
@@ -93,33 +89,30 @@ overflow_add-start2 c =
 
 pub sum_8x8_block-other-requires : goal.sum_8x8_block-other-requires
 sum_8x8_block-other-requires c =
-    let row : let s = c.args in BlocksRow word_most s.p s.a.now s.q s.b.now s.y c.block_row-start.result c.block_row-start2.result = let k = c in
-    record {
+    let row : let s = c.args in BlocksRow word_most s.p s.a.now s.q s.b.now s.y c.block_row-start.result c.block_row-start2.result = record {
       small = omega arith;
-      most = λ i. omega (arith, k.shared_slice_known-1.given i);
-      most2 = λ i. omega (arith, k.shared_slice_known-2-1.given i);
-      given = (k.requires.b_value, k.requires.y_bound);
+      most = λ i. omega (arith, c.shared_slice_known-1.given i);
+      most2 = λ i. omega (arith, c.shared_slice_known-2-1.given i);
+      given = (c.requires.b_value, c.requires.y_bound);
       starts = c.block_row-start.ensures;
       starts2 = c.block_row-start2.ensures;
     } in
     let inside : BlocksIn row c.loop-x.x = blocks_in_lem row c.loop-x.x (omega arith) in
-    let smalls : let r = c in let s = r.args in let x = c.loop-x.x in SmallRows s.a.now (r.block_row-start.result + x * block_side) s.p.stride block_side × SmallRows s.b.now (r.block_row-start2.result + x * block_side) s.q.stride block_side = let r = c in
-    let s = r in
+    let smalls : let s = c.args in let x = c.loop-x.x in SmallRows s.a.now (c.block_row-start.result + x * block_side) s.p.stride block_side × SmallRows s.b.now (c.block_row-start2.result + x * block_side) s.q.stride block_side = let s = c in
     let h = pair _ _ _ _ s.requires.b_value in
     let x = c.loop-x.x in (
-      small_block s.args.p s.args.a.now s.args.y x _ h.first s.requires.y_bound (omega arith) r.block_row-start.ensures s.requires.small_blocks.0,
-      small_block s.args.q s.args.b.now s.args.y x _ h.second (omega (arith, h.heights, s.requires.y_bound)) (omega (arith, h.widths)) r.block_row-start2.ensures s.requires.small_blocks.1,
+      small_block s.args.p s.args.a.now s.args.y x _ h.first s.requires.y_bound (omega arith) c.block_row-start.ensures s.requires.small_blocks.0,
+      small_block s.args.q s.args.b.now s.args.y x _ h.second (omega (arith, h.heights, s.requires.y_bound)) (omega (arith, h.widths)) c.block_row-start2.ensures s.requires.small_blocks.1,
     ) in
     record { by_index = λ j h. (inside j h).1; small_rows = smalls.1 }
 
 pub means_apart-requires : goal.means_apart-requires
 means_apart-requires c =
-    let row : let s = c.args in BlocksRow word_most s.p s.a.now s.q s.b.now s.y c.block_row-start.result c.block_row-start2.result = let k = c in
-    record {
+    let row : let s = c.args in BlocksRow word_most s.p s.a.now s.q s.b.now s.y c.block_row-start.result c.block_row-start2.result = record {
       small = omega arith;
-      most = λ i. omega (arith, k.shared_slice_known-1.given i);
-      most2 = λ i. omega (arith, k.shared_slice_known-2-1.given i);
-      given = (k.requires.b_value, k.requires.y_bound);
+      most = λ i. omega (arith, c.shared_slice_known-1.given i);
+      most2 = λ i. omega (arith, c.shared_slice_known-2-1.given i);
+      given = (c.requires.b_value, c.requires.y_bound);
       starts = c.block_row-start.ensures;
       starts2 = c.block_row-start2.ensures;
     } in
@@ -127,46 +120,39 @@ means_apart-requires c =
 
 pub overflow_add-total : goal.overflow_add-total
 overflow_add-total c =
-    let row : let s = c.args in BlocksRow word_most s.p s.a.now s.q s.b.now s.y c.block_row-start.result c.block_row-start2.result = let k = c in
-    record {
+    let row : let s = c.args in BlocksRow word_most s.p s.a.now s.q s.b.now s.y c.block_row-start.result c.block_row-start2.result = record {
       small = omega arith;
-      most = λ i. omega (arith, k.shared_slice_known-1.given i);
-      most2 = λ i. omega (arith, k.shared_slice_known-2-1.given i);
-      given = (k.requires.b_value, k.requires.y_bound);
+      most = λ i. omega (arith, c.shared_slice_known-1.given i);
+      most2 = λ i. omega (arith, c.shared_slice_known-2-1.given i);
+      given = (c.requires.b_value, c.requires.y_bound);
       starts = c.block_row-start.ensures;
       starts2 = c.block_row-start2.ensures;
     } in
-    let turn : let l = c in GapTurn row l.loop-x.total c.means_apart.result l.loop-x.x = let o = c in
-    let l = o in
-    gap_turn row l.loop-x.x l.loop-x.total o.sum_8x8_block-org.result c.sum_8x8_block-other.result c.means_apart.result
-    (omega arith) l.loop-x.invariant.1 o.sum_8x8_block-org.ensures c.sum_8x8_block-other.ensures c.means_apart.ensures in
+    let turn : GapTurn row c.loop-x.total c.means_apart.result c.loop-x.x = gap_turn row c.loop-x.x c.loop-x.total c.sum_8x8_block-org.result c.sum_8x8_block-other.result c.means_apart.result
+    (omega arith) c.loop-x.invariant.1 c.sum_8x8_block-org.ensures c.sum_8x8_block-other.ensures c.means_apart.ensures in
     record { fits = turn.1 }
 
 pub loop-x-preserved : goal.loop-x-preserved
 loop-x-preserved c =
-    let row : let s = c.args in BlocksRow word_most s.p s.a.now s.q s.b.now s.y c.block_row-start.result c.block_row-start2.result = let k = c in
-    record {
+    let row : let s = c.args in BlocksRow word_most s.p s.a.now s.q s.b.now s.y c.block_row-start.result c.block_row-start2.result = record {
       small = omega arith;
-      most = λ i. omega (arith, k.shared_slice_known-1.given i);
-      most2 = λ i. omega (arith, k.shared_slice_known-2-1.given i);
-      given = (k.requires.b_value, k.requires.y_bound);
+      most = λ i. omega (arith, c.shared_slice_known-1.given i);
+      most2 = λ i. omega (arith, c.shared_slice_known-2-1.given i);
+      given = (c.requires.b_value, c.requires.y_bound);
       starts = c.block_row-start.ensures;
       starts2 = c.block_row-start2.ensures;
     } in
-    let turn : let l = c in GapTurn row l.loop-x.total c.means_apart.result l.loop-x.x = let o = c in
-    let l = o in
-    gap_turn row l.loop-x.x l.loop-x.total o.sum_8x8_block-org.result c.sum_8x8_block-other.result c.means_apart.result
-    (omega arith) l.loop-x.invariant.1 o.sum_8x8_block-org.ensures c.sum_8x8_block-other.ensures c.means_apart.ensures in
+    let turn : GapTurn row c.loop-x.total c.means_apart.result c.loop-x.x = gap_turn row c.loop-x.x c.loop-x.total c.sum_8x8_block-org.result c.sum_8x8_block-other.result c.means_apart.result
+    (omega arith) c.loop-x.invariant.1 c.sum_8x8_block-org.ensures c.sum_8x8_block-other.ensures c.means_apart.ensures in
     (search rules, turn.0)
 
 pub returns : goal.returns
 returns c =
-    let row : let s = c.args in BlocksRow word_most s.p s.a.now s.q s.b.now s.y c.block_row-start.result c.block_row-start2.result = let k = c in
-    record {
+    let row : let s = c.args in BlocksRow word_most s.p s.a.now s.q s.b.now s.y c.block_row-start.result c.block_row-start2.result = record {
       small = omega arith;
-      most = λ i. omega (arith, k.shared_slice_known-1.given i);
-      most2 = λ i. omega (arith, k.shared_slice_known-2-1.given i);
-      given = (k.requires.b_value, k.requires.y_bound);
+      most = λ i. omega (arith, c.shared_slice_known-1.given i);
+      most2 = λ i. omega (arith, c.shared_slice_known-2-1.given i);
+      given = (c.requires.b_value, c.requires.y_bound);
       starts = c.block_row-start.ensures;
       starts2 = c.block_row-start2.ensures;
     } in

@@ -14,20 +14,17 @@ use Rattle.importance.proofs.deep.importance.Goals as goal
 
 pub overflow_mul-count : goal.overflow_mul-count
 overflow_mul-count c =
+    -- a total that is given says that nothing is refused
     let passed : let s = c.args in (importance_fault deep s.depth s.p s.a.now s.q s.b.now ≡ 0) × (c.in-Number.total ≡ importance_total s.p s.a.now s.q s.b.now) = given {A = ℕ} _ _ 0 _ c.importance_total.ensures _ c.in-Number.is in
-    let t = c in
-    let s = t.args in
+    let s = c.args in
     record { fits = count_fits s.p (length s.a.now) s.q (length s.b.now) (one_size deep s.depth s.p s.a.now s.q s.b.now passed.0) }
 
 pub returns-in-Refused : goal.returns-in-Refused
 returns-in-Refused c =
-    let f = c in
-    let t = f in
-    handed_on _ _ _ _ t.importance_total.ensures _ f.in-Refused.is
+    handed_on _ _ _ _ c.importance_total.ensures _ c.in-Refused.is
 
 pub returns-in-Number : goal.returns-in-Number
 returns-in-Number c =
     let passed : let s = c.args in (importance_fault deep s.depth s.p s.a.now s.q s.b.now ≡ 0) × (c.in-Number.total ≡ importance_total s.p s.a.now s.q s.b.now) = given {A = ℕ} _ _ 0 _ c.importance_total.ensures _ c.in-Number.is in
-    let t = c in
-    let s = t.args in
+    let s = c.args in
     answer_given _ _ _ (sym passed.0) (c.quotient.ensures ∙ ap (λ (n : ℕ). quotient_of n (block_count s.p)) passed.1)

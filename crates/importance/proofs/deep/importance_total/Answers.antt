@@ -14,14 +14,15 @@ returns-then-fault-ne0 c = shapes_refused _ _ _ _ _ _ _ (shapes_first deep _ _ _
 
 pub overflow_mul-p : goal.overflow_mul-p
 overflow_mul-p c =
+    -- past the first test the shapes pass
     let shapes : let s = c.args in 0 ≡ shapes_fault deep s.depth s.p (length s.a.now) s.q (length s.b.now) = sym c.if-fault-ne0.false ∙ c.shapes_fault-fault.ensures in
-    let d = c in
-    let s = d.args in
+    let s = c.args in
     omega (arith, shapes_count deep s.depth s.p (length s.a.now) s.q (length s.b.now) (sym shapes))
 
 pub returns-then-none-ne0 : goal.returns-then-none-ne0
 returns-then-none-ne0 c =
     let shapes : let s = c.args in 0 ≡ shapes_fault deep s.depth s.p (length s.a.now) s.q (length s.b.now) = sym c.if-fault-ne0.false ∙ c.shapes_fault-fault.ensures in
+    -- what is found by shapes and blocks
     let found : let s = c.args in c.block_fault-none.result ≡ blocks_fault deep s.depth s.p (length s.a.now) s.q (length s.b.now) = blocks_next deep _ _ _ _ _ _ shapes c.block_fault-none.ensures in
     shapes_refused _ _ _ _ _ _ _ found c.if-none-ne0.true
 
@@ -34,4 +35,4 @@ pub returns : goal.returns
 returns c =
     let shapes : let s = c.args in 0 ≡ shapes_fault deep s.depth s.p (length s.a.now) s.q (length s.b.now) = sym c.if-fault-ne0.false ∙ c.shapes_fault-fault.ensures in
     let found : let s = c.args in c.block_fault-none.result ≡ blocks_fault deep s.depth s.p (length s.a.now) s.q (length s.b.now) = blocks_next deep _ _ _ _ _ _ shapes c.block_fault-none.ensures in
-    let d = c in shapes_passed _ _ _ _ _ (sym d.if-none-ne0.false ∙ found) _ _ c.all_differences.ensures
+    shapes_passed _ _ _ _ _ (sym c.if-none-ne0.false ∙ found) _ _ c.all_differences.ensures

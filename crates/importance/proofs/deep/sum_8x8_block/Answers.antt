@@ -11,19 +11,17 @@ use Rattle.importance.proofs.deep.sum_8x8_block.Goals as goal
 
 pub sum_rows-requires-2 : goal.sum_rows-requires-2
 sum_rows-requires-2 c =
-    let s = c in
-    record { by_index = lower_in s.args.s.now s.args.start s.args.stride s.requires.by_index; small_rows = lower_rows s.args.s.now s.args.start s.args.stride s.requires.small_rows }
+    record { by_index = lower_in c.args.s.now c.args.start c.args.stride c.requires.by_index; small_rows = lower_rows c.args.s.now c.args.start c.args.stride c.requires.small_rows }
 
 -- any 64 words fit a u32
 pub overflow_add-result : goal.overflow_add-result
 overflow_add-result c =
     let whole : let s = c.args in c.sum_rows.result + c.sum_rows-2.result ≡ square_from block_side s.s.now s.start s.stride = let s = c.args in halves_are s.s.now s.start s.stride _ _ c.sum_rows.ensures c.sum_rows-2.ensures in
-    let k = c in
-    let s = k.args in
-    omega (arith, whole, square_most word_most block_side s.s.now (λ i. omega (arith, k.shared_slice_known-1.given i)) s.start s.stride)
+    let s = c.args in
+    omega (arith, whole, square_most word_most block_side s.s.now (λ i. omega (arith, c.shared_slice_known-1.given i)) s.start s.stride)
 
 pub sum_rows-requires : goal.sum_rows-requires
-sum_rows-requires c = let s = c in record { by_index = λ j h. s.requires.by_index j (omega arith); small_rows = upper_rows s.args.s.now s.args.start s.args.stride s.requires.small_rows }
+sum_rows-requires c = record { by_index = λ j h. c.requires.by_index j (omega arith); small_rows = upper_rows c.args.s.now c.args.start c.args.stride c.requires.small_rows }
 
 pub overflow_mul-stride : goal.overflow_mul-stride
 overflow_mul-stride c = omega (arith, c.requires.by_index 4 (omega arith), c.well_formed.0.1)

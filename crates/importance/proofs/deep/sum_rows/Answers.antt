@@ -1,5 +1,5 @@
 -- `importance::deep::sum_rows` meets its contract. After i turns the sum is that of the first i sums of four, each of which fits 16 bits. Assumes nothing.
-use Prim.Native.Nat.{◌+◌, ◌*◌, ◌≤◌, ◌<◌, ◌-◌, ◌^◌}
+use Prim.Native.Nat.{◌+◌, ◌*◌, ◌≤◌, ◌<◌, ◌^◌}
 use native.Mathlib.Omega.{arith}
 use borrow.Author.Rules.{rules}
 use lib.ListN.{length, get_or}
@@ -11,6 +11,7 @@ use Rattle.importance.proofs.deep.sum_rows.Goals as goal
 
 pub overflow_add-second : goal.overflow_add-second
 overflow_add-second c =
+    -- the last row lies within the samples, whose bytes can be counted
     let inside : let s = c.args in (s.at + 3 * s.stride + block_side ≤ length s.s.now) × (length s.s.now * 2 < 2 ^ 63) = (c.requires.by_index 3 (omega arith), c.well_formed.0.1) in
     omega (arith, inside)
 
@@ -59,6 +60,7 @@ bounds-s-second c =
 
 pub overflow_add-sum-in-loop-i-2 : goal.overflow_add-sum-in-loop-i-2
 overflow_add-sum-in-loop-i-2 c =
+    -- the four samples of a turn
     let small : let s = c.args in let i = c.loop-i.i in get_or s.s.now (s.at + i) 0 + get_or s.s.now (s.at + s.stride + i) 0 + get_or s.s.now (s.at + s.stride + s.stride + i) 0 + get_or s.s.now (s.at + s.stride + s.stride + s.stride + i) 0 ≤ 4 * deep_most = let s = c in
     let i = c.loop-i.i in
     omega (arith, four_is s.args.s.now s.args.at s.args.stride i, four_most s.args.s.now s.args.at s.args.stride s.requires.small_rows i (omega arith)) in
@@ -117,18 +119,16 @@ overflow_cast-sum c =
 
 pub overflow_add-sum-in-loop-i-7 : goal.overflow_add-sum-in-loop-i-7
 overflow_add-sum-in-loop-i-7 c =
-    let next : let l = c in let s = l.args in NextSum (2 ^ 32) l.loop-i.i l.loop-i.sum (get_or s.s.now (s.at + l.loop-i.i) 0 + get_or s.s.now (s.at + s.stride + l.loop-i.i) 0 + get_or s.s.now (s.at + s.stride + s.stride + l.loop-i.i) 0 + get_or s.s.now (s.at + s.stride + s.stride + s.stride + l.loop-i.i) 0) (four_at s.s.now s.at s.stride) = let l = c in
-    let s = l in
-    four_next s.args.s.now s.args.at s.args.stride s.requires.small_rows l.loop-i.i l.loop-i.sum _ (omega arith) l.loop-i.invariant.1
-    (four_is s.args.s.now s.args.at s.args.stride l.loop-i.i) in
+    let next : let s = c.args in NextSum (2 ^ 32) c.loop-i.i c.loop-i.sum (get_or s.s.now (s.at + c.loop-i.i) 0 + get_or s.s.now (s.at + s.stride + c.loop-i.i) 0 + get_or s.s.now (s.at + s.stride + s.stride + c.loop-i.i) 0 + get_or s.s.now (s.at + s.stride + s.stride + s.stride + c.loop-i.i) 0) (four_at s.s.now s.at s.stride) = let s = c in
+    four_next s.args.s.now s.args.at s.args.stride s.requires.small_rows c.loop-i.i c.loop-i.sum _ (omega arith) c.loop-i.invariant.1
+    (four_is s.args.s.now s.args.at s.args.stride c.loop-i.i) in
     record { fits = next.1 }
 
 pub loop-i-preserved : goal.loop-i-preserved
 loop-i-preserved c =
-    let next : let l = c in let s = l.args in NextSum (2 ^ 32) l.loop-i.i l.loop-i.sum (get_or s.s.now (s.at + l.loop-i.i) 0 + get_or s.s.now (s.at + s.stride + l.loop-i.i) 0 + get_or s.s.now (s.at + s.stride + s.stride + l.loop-i.i) 0 + get_or s.s.now (s.at + s.stride + s.stride + s.stride + l.loop-i.i) 0) (four_at s.s.now s.at s.stride) = let l = c in
-    let s = l in
-    four_next s.args.s.now s.args.at s.args.stride s.requires.small_rows l.loop-i.i l.loop-i.sum _ (omega arith) l.loop-i.invariant.1
-    (four_is s.args.s.now s.args.at s.args.stride l.loop-i.i) in
+    let next : let s = c.args in NextSum (2 ^ 32) c.loop-i.i c.loop-i.sum (get_or s.s.now (s.at + c.loop-i.i) 0 + get_or s.s.now (s.at + s.stride + c.loop-i.i) 0 + get_or s.s.now (s.at + s.stride + s.stride + c.loop-i.i) 0 + get_or s.s.now (s.at + s.stride + s.stride + s.stride + c.loop-i.i) 0) (four_at s.s.now s.at s.stride) = let s = c in
+    four_next s.args.s.now s.args.at s.args.stride s.requires.small_rows c.loop-i.i c.loop-i.sum _ (omega arith) c.loop-i.invariant.1
+    (four_is s.args.s.now s.args.at s.args.stride c.loop-i.i) in
     (search rules, next.0)
 
 pub returns : goal.returns

@@ -17,6 +17,7 @@ returns-then-fault-ne0 c =
 
 pub flat_sample-requires : goal.flat_sample-requires
 flat_sample-requires c =
+    -- past the test nothing is refused
     let none : let s = c.args in 0 ≡ intra_fault deep s.depth s.p s.s.now s.w s.work.now (length s.costs.now) = sym c.if-fault-ne0.false ∙ c.intra_fault-fault.ensures in
     suits_word deep _ _ _ _ _ _ (sym none)
 
@@ -29,15 +30,11 @@ all_costs-requires c =
 pub overflow_mul-result : goal.overflow_mul-result
 overflow_mul-result c =
     let none : let s = c.args in 0 ≡ intra_fault deep s.depth s.p s.s.now s.w s.work.now (length s.costs.now) = sym c.if-fault-ne0.false ∙ c.intra_fault-fault.ensures in
-    let d = c in
-    let s = d.args in
+    let s = c.args in
     omega (arith, blocks_most deep s.depth s.p s.s.now s.w s.work.now (length s.costs.now) (sym none))
 
 pub returns : goal.returns
 returns c =
     let none : let s = c.args in 0 ≡ intra_fault deep s.depth s.p s.s.now s.w s.work.now (length s.costs.now) = sym c.if-fault-ne0.false ∙ c.intra_fault-fault.ensures in
-    let a = c in
-    let f = a in
-    let d = f in
-    let s = d.args in
-    let e = none in record { result_value = answer_given _ _ _ e refl; work_after = (a.all_costs.ensures.work_after ∙ ap (λ (flat : ℕ). work_after flat s.w s.work.now) f.flat_sample.ensures) ∙ lent_written _ _ _ e; costs_after = (a.all_costs.ensures.costs_after ∙ ap (λ (flat : ℕ). costs_after flat s.p s.s.now s.costs.now) f.flat_sample.ensures) ∙ lent_written _ _ _ e }
+    let s = c.args in
+    let e = none in record { result_value = answer_given _ _ _ e refl; work_after = (c.all_costs.ensures.work_after ∙ ap (λ (flat : ℕ). work_after flat s.w s.work.now) c.flat_sample.ensures) ∙ lent_written _ _ _ e; costs_after = (c.all_costs.ensures.costs_after ∙ ap (λ (flat : ℕ). costs_after flat s.p s.s.now s.costs.now) c.flat_sample.ensures) ∙ lent_written _ _ _ e }

@@ -1,6 +1,6 @@
 -- `intra::deep::fill_row` meets its contract. After x turns the first x samples are flat and every other is as it was. Assumes nothing.
 use mathlib.Core.Path.{refl}
-use Prim.Native.Nat.{ℕ, ◌-◌}
+use Prim.Native.Nat.{ℕ}
 use native.Mathlib.Omega.{arith}
 use borrow.Author.Rules.{rules}
 use lib.Dec.{ltb}
@@ -12,7 +12,7 @@ pub loop-x-init : goal.loop-x-init
 loop-x-init c = (search rules, front_none _ _)
 
 pub loop-x-preserved : goal.loop-x-preserved
-loop-x-preserved c = let l = c in (search rules, front_more l.loop-x.invariant.1 _ (omega (arith, l.requires)) refl)
+loop-x-preserved c = (search rules, front_more c.loop-x.invariant.1 _ (omega (arith, c.requires)) refl)
 
 pub shape_of-part : goal.shape_of-part
 shape_of-part c = c.loop-x.invariant.1.same

@@ -1,6 +1,6 @@
 -- `standard::cost_sum` meets its contract. After k turns the sum is that of the first k costs, and 2 ^ 32 of them fit a u64. Assumes nothing.
 use mathlib.Core.Path.{refl}
-use Prim.Native.Nat.{ℕ, ◌-◌, ◌^◌}
+use Prim.Native.Nat.{ℕ, ◌^◌}
 use native.Mathlib.Omega.{arith}
 use borrow.Author.Rules.{rules}
 use lib.ListN.{get_or}
@@ -26,16 +26,15 @@ overflow_cast-sum c = omega (arith, c.shared_slice_known-1.given c.loop-k.k)
 
 pub overflow_add-sum : goal.overflow_add-sum
 overflow_add-sum c =
-    let next : let l = c in let s = l.args.costs.now in NextSum (2 ^ 64) l.loop-k.k l.loop-k.sum (get_or s l.loop-k.k 0) (λ (n : ℕ). get_or s n 0) = let l = c in
-    let s = l in
-    next_sum cost_most s.args.count (2 ^ 64) (λ (n : ℕ). get_or s.args.costs.now n 0) (λ i _. omega (arith, c.shared_slice_known-1.given i)) (omega (arith, s.requires)) l.loop-k.k _ _ (omega arith) l.loop-k.invariant.1 refl in
+    -- a turn's sum, and that it fits
+    let next : let s = c.args.costs.now in NextSum (2 ^ 64) c.loop-k.k c.loop-k.sum (get_or s c.loop-k.k 0) (λ (n : ℕ). get_or s n 0) = let s = c in
+    next_sum cost_most s.args.count (2 ^ 64) (λ (n : ℕ). get_or s.args.costs.now n 0) (λ i _. omega (arith, c.shared_slice_known-1.given i)) (omega (arith, s.requires)) c.loop-k.k _ _ (omega arith) c.loop-k.invariant.1 refl in
     omega (arith, next.1)
 
 pub loop-k-preserved : goal.loop-k-preserved
 loop-k-preserved c =
-    let next : let l = c in let s = l.args.costs.now in NextSum (2 ^ 64) l.loop-k.k l.loop-k.sum (get_or s l.loop-k.k 0) (λ (n : ℕ). get_or s n 0) = let l = c in
-    let s = l in
-    next_sum cost_most s.args.count (2 ^ 64) (λ (n : ℕ). get_or s.args.costs.now n 0) (λ i _. omega (arith, c.shared_slice_known-1.given i)) (omega (arith, s.requires)) l.loop-k.k _ _ (omega arith) l.loop-k.invariant.1 refl in
+    let next : let s = c.args.costs.now in NextSum (2 ^ 64) c.loop-k.k c.loop-k.sum (get_or s c.loop-k.k 0) (λ (n : ℕ). get_or s n 0) = let s = c in
+    next_sum cost_most s.args.count (2 ^ 64) (λ (n : ℕ). get_or s.args.costs.now n 0) (λ i _. omega (arith, c.shared_slice_known-1.given i)) (omega (arith, s.requires)) c.loop-k.k _ _ (omega arith) c.loop-k.invariant.1 refl in
     (search rules, next.0)
 
 pub returns : goal.returns

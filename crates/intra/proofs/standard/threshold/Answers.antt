@@ -46,6 +46,7 @@ returns-then-none-ne0 c = answer_refused _ _ _ (empty _ _ _ c.block_fault-none.e
 
 pub returns-then-costs-count : goal.returns-then-costs-count
 returns-then-costs-count c =
+    -- past the first test there is a cost
     let some : 0 ≡ block_fault c.args.count = sym c.if-none-ne0.false ∙ c.block_fault-none.ensures in
     answer_refused 4 _ _ (short _ _ some c.if-costs-count.true) (λ e. omega arith)
 
@@ -64,8 +65,7 @@ bias-is = refl
 pub returns : goal.returns
 returns c =
     let some : 0 ≡ block_fault c.args.count = sym c.if-none-ne0.false ∙ c.block_fault-none.ensures in
-    let b = c in
-    let s = b.args in
+    let s = c.args in
     let mean = c.quotient.ensures ∙ ap (λ (n : ℕ). quotient_of n s.count) c.cost_sum.ensures in
-    answer_given _ _ _ (none _ _ some b.if-costs-count.false b.if-count-gt-MOST.false)
+    answer_given _ _ _ (none _ _ some c.if-costs-count.false c.if-count-gt-MOST.false)
     (ap₂ (mul binary64) mean (ap₂ (sub binary64) one_is bias-is))

@@ -9,6 +9,7 @@ use Rattle.plane.proofs.Plane.block_row.Goals as goal
 
 pub overflow_mul-result : goal.overflow_mul-result
 overflow_mul-result c =
+    -- where the first row of its samples ends
     let inside : let s = c.args in row_end s.self (s.y * 8) ≤ s.n = leb-true _ _ (sym c.row_lies.ensures ∙ c.if-row_lies.true) in
     omega (arith, inside)
 
@@ -20,16 +21,14 @@ overflow_add-result c =
 pub returns-then-row_lies : goal.returns-then-row_lies
 unfolding block_row
 returns-then-row_lies c =
-    let d = c in
-    let s = d.args in
-    rw (lt-ltb s.y (s.self.height / 8) d.if-y-self.true, sym c.row_lies.ensures ∙ c.if-row_lies.true)
+    let s = c.args in
+    rw (lt-ltb s.y (s.self.height / 8) c.if-y-self.true, sym c.row_lies.ensures ∙ c.if-row_lies.true)
 
 pub returns-else-row_lies : goal.returns-else-row_lies
 unfolding block_row
 returns-else-row_lies c =
-    let d = c in
-    let s = d.args in
-    rw (lt-ltb s.y (s.self.height / 8) d.if-y-self.true, sym c.row_lies.ensures ∙ c.if-row_lies.false)
+    let s = c.args in
+    rw (lt-ltb s.y (s.self.height / 8) c.if-y-self.true, sym c.row_lies.ensures ∙ c.if-row_lies.false)
 
 pub returns-else-y-self : goal.returns-else-y-self
 unfolding block_row

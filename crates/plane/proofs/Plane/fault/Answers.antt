@@ -12,6 +12,7 @@ returns-then-bad_side-stride c = fault_shape _ _ (rw (c.bad_side.ensures, c.bad_
 pub overflow_sub-height : goal.overflow_sub-height
 unfolding bad_plane
 overflow_sub-height c =
+    -- past the first test the shape is good
     let good : bad_plane c.args.self ≡ false = rw (c.bad_side.ensures, c.bad_side-2.ensures) at c.if-bad_side-stride.false in
     (shape c.args.self (good)).1.0
 

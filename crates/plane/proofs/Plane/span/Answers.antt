@@ -13,6 +13,7 @@ use Rattle.plane.proofs.Plane.span.Goals as goal
 
 pub overflow_mul-start : goal.overflow_mul-start
 overflow_mul-start c =
+    -- where the row ends
     let inside : let s = c.args in row_end s.self s.y ≤ s.n = leb-true _ _ (sym c.row_lies.ensures ∙ c.if-row_lies.true) in
     omega (arith, inside)
 

@@ -1,6 +1,5 @@
 -- `plane::deep::bits_of` meets its contract: after x turns the bits are those of the first x samples. Assumes nothing.
 use mathlib.Core.Path.{refl}
-use Prim.Native.Nat.{◌-◌}
 use native.Mathlib.Omega.{arith}
 use borrow.Author.Rules.{rules}
 use Rattle.plane.proofs.SampleLaws.{reach_none, reach_more, reach_to}

@@ -10,11 +10,9 @@ returns-then-fault-ne0 c = shapes_first deep _ _ _ _ _ _ c.shapes_fault-fault.en
 
 pub overflow_mul-p : goal.overflow_mul-p
 overflow_mul-p c =
-    let d = c in
-    let s = d.args in
-    omega (arith, shapes_count deep s.depth s.p s.n s.q s.m (sym d.shapes_fault-fault.ensures ∙ d.if-fault-ne0.false))
+    let s = c.args in
+    omega (arith, shapes_count deep s.depth s.p s.n s.q s.m (sym c.shapes_fault-fault.ensures ∙ c.if-fault-ne0.false))
 
 pub returns : goal.returns
 returns c =
-    let d = c in
-    blocks_next deep _ _ _ _ _ _ (sym d.if-fault-ne0.false ∙ d.shapes_fault-fault.ensures) c.block_fault.ensures
+    blocks_next deep _ _ _ _ _ _ (sym c.if-fault-ne0.false ∙ c.shapes_fault-fault.ensures) c.block_fault.ensures

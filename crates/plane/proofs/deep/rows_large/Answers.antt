@@ -12,21 +12,19 @@ loop-y-init c = let s = c.args in (omega arith, omega arith, reach_to (large s.p
 
 pub loop-y-preserved : goal.loop-y-preserved
 loop-y-preserved c =
-    let l = c in
-    let s = l.args in
-    let y = l.loop-y.y in
+    let s = c.args in
+    let y = c.loop-y.y in
     let test = large s.p s.s.now s.from in
     let place : s.from + (y - s.from) ≡ y = omega arith in (
       omega arith,
       omega arith,
       reach_to test _ (y - s.from + 1) _
-          (reach_more test l.loop-y.bits (y - s.from) c.bits_of-bits.result l.loop-y.invariant.2
+          (reach_more test c.loop-y.bits (y - s.from) c.bits_of-bits.result c.loop-y.invariant.2
           (λ n. rw c.row.ensures at (c.bits_of-bits.ensures n) ∙ ap (row_large n s.p s.s.now) (sym place)))
           (omega arith),
     )
 
 pub returns : goal.returns
 returns c =
-    let l = c in
-    let s = l.args in
-    c.reaches.ensures ∙ reach_to (large s.p s.s.now s.from) l.loop-y.bits _ _ l.loop-y.invariant.2 (omega arith) s.depth
+    let s = c.args in
+    c.reaches.ensures ∙ reach_to (large s.p s.s.now s.from) c.loop-y.bits _ _ c.loop-y.invariant.2 (omega arith) s.depth

@@ -22,6 +22,7 @@ too_large-requires c = sym c.fault-shape.ensures ∙ c.if-shape-ne0.false
 pub returns-then-too_large : goal.returns-then-too_large
 unfolding sample_fault
 returns-then-too_large c =
+    -- past the shape only the samples can be refused
     let samples : (r : ℕ) → let s = c.args in r ≡ refusal 16 (too_large s.depth s.p s.s.now) → r ≡ sample_fault deep s.depth s.p s.s.now = λ r e. or_later _ _ _ (sym c.if-fault-ne0.false ∙ c.word_fault-fault.ensures)
     (or_later _ _ _ (sym c.if-shape-ne0.false ∙ c.fault-shape.ensures) e) in
     samples 16 (test_given 16 _ (sym c.too_large.ensures ∙ c.if-too_large.true))

@@ -5,4 +5,4 @@ use Rattle.plane.proofs.SampleLaws.{all_rows}
 use Rattle.plane.proofs.deep.too_large.Goals as goal
 
 pub returns : goal.returns
-returns c = let s = c in c.rows_large.ensures ∙ all_rows s.args.depth s.args.p s.args.s.now (lies _ _ s.requires)
+returns c = c.rows_large.ensures ∙ all_rows c.args.depth c.args.p c.args.s.now (lies _ _ c.requires)

@@ -8,7 +8,7 @@ use Rattle.sums.proofs.Wrote.{wrote_all, front_none, front_more}
 use Rattle.reduce.proofs.deep.copy_row.Goals as goal
 
 pub loop-x-preserved : goal.loop-x-preserved
-loop-x-preserved c = let l = c in (search rules, front_more l.loop-x.invariant.1 _ (omega (arith, l.requires)) refl)
+loop-x-preserved c = (search rules, front_more c.loop-x.invariant.1 _ (omega (arith, c.requires)) refl)
 
 pub loop-x-init : goal.loop-x-init
 loop-x-init c = (search rules, front_none _ _)

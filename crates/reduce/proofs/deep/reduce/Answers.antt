@@ -10,9 +10,8 @@ pub returns : goal.returns
 returns c =
     -- past the test nothing is refused
     let none : let s = c.args in 0 ≡ reduce_fault deep s.depth s.factor s.p s.s.now s.q s.reduced.now = sym c.if-fault-ne0.false ∙ c.reduce_fault-fault.ensures in
-    let r = c in
     let e = none in
-    record { value = e; reduced_after = r.reduce_plane.ensures ∙ lent_written _ _ _ e }
+    record { value = e; reduced_after = c.reduce_plane.ensures ∙ lent_written _ _ _ e }
 
 pub returns-then-fault-ne0 : goal.returns-then-fault-ne0
 returns-then-fault-ne0 c = let e = c.reduce_fault-fault.ensures in record { value = e; reduced_after = lent_kept _ _ _ _ e c.if-fault-ne0.true }

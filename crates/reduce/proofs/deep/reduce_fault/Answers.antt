@@ -9,5 +9,4 @@ returns-then-fault-ne0 c = sides_refused deep _ _ _ _ _ _ _ c.word_fault.ensures
 
 pub returns : goal.returns
 returns c =
-    let d = c in
-    samples_decide deep _ _ _ _ _ _ _ d.word_fault.ensures (sym c.if-fault-ne0.false ∙ d.sides_fault-fault.ensures) _ c.sample_fault.ensures
+    samples_decide deep _ _ _ _ _ _ _ c.word_fault.ensures (sym c.if-fault-ne0.false ∙ c.sides_fault-fault.ensures) _ c.sample_fault.ensures

@@ -15,16 +15,12 @@ pub copy_row-requires : goal.copy_row-requires
 copy_row-requires c =
     -- the samples that are copied lie within
     let inside : let s = c.args in s.start + s.count ≤ length s.s.now = let s = c in copy_in s.args.factor s.args.start s.args.stride s.args.count s.args.s.now c.if-factor-eq1.true s.requires.rows_in in
-    let d = c in
     let h = inside in
-    record { n_in_bounds = d.requires.count_in_bounds; n_in_bounds_2 = simp (length-take, length-drop) (omega arith) }
+    record { n_in_bounds = c.requires.count_in_bounds; n_in_bounds_2 = simp (length-take, length-drop) (omega arith) }
 
 pub returns-then-factor-eq1 : goal.returns-then-factor-eq1
 returns-then-factor-eq1 c =
-    let r = c in
-    let d = r in
-    let s = d in
-    r.copy_row.ensures ∙ copy_is s.args.factor s.args.start s.args.stride s.args.count s.args.s.now d.if-factor-eq1.true s.requires.rows_in s.args.out.now
+    c.copy_row.ensures ∙ copy_is c.args.factor c.args.start c.args.stride c.args.count c.args.s.now c.if-factor-eq1.true c.requires.rows_in c.args.out.now
 
 -- a factor stands in its arm as the number g
 module _ (f g : ℕ) (e : f ≡ g) (start stride count : ℕ) where

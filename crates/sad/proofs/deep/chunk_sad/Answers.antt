@@ -1,6 +1,6 @@
 -- `sad::deep::chunk_sad` meets its contract: after i turns the sums and the bits are those of the first i pairs. Assumes nothing.
 use mathlib.Core.Path.{◌≡◌, refl, ap}
-use Prim.Native.Nat.{ℕ, ◌<◌, ◌-◌, ◌/◌, ◌%◌, ◌^◌}
+use Prim.Native.Nat.{ℕ, ◌<◌, ◌/◌, ◌%◌, ◌^◌}
 use native.Mathlib.Omega.{arith}
 use borrow.Author.Rules.{rules}
 use Rattle.plane.proofs.SampleLaws.{reach_none, reach_both, reach_to}
@@ -11,18 +11,16 @@ use Rattle.sad.proofs.deep.chunk_sad.Goals as goal
 
 pub loop-i-preserved : goal.loop-i-preserved
 loop-i-preserved c =
-    let next : let l = c in let s = l.args in NextSum (2 ^ 16) l.loop-i.i l.loop-i.low (c.distance-d.result % 256) (low_at s.a.now s.b.now s.at) × NextSum (2 ^ 16) l.loop-i.i l.loop-i.high (c.distance-d.result / 256) (high_at s.a.now s.b.now s.at) = let l = c in
-    let k = l in
-    let s = k.args in
-    let i< : l.loop-i.i < s.n = omega arith in (
-      low_next s.a.now s.b.now s.at s.n k.requires.n_bound l.loop-i.i l.loop-i.low _ i< l.loop-i.invariant.1 (ap (λ (d : ℕ). d % 256) c.distance-d.ensures),
-      high_next s.a.now s.b.now s.at s.n k.requires.n_bound
-          (λ j. omega (arith, k.shared_slice_known-1.given j)) (λ j. omega (arith, k.shared_slice_known-2-1.given j))
-          l.loop-i.i l.loop-i.high _ i< l.loop-i.invariant.2 (ap (λ (d : ℕ). d / 256) c.distance-d.ensures),
+    -- a turn of both sums
+    let next : let s = c.args in NextSum (2 ^ 16) c.loop-i.i c.loop-i.low (c.distance-d.result % 256) (low_at s.a.now s.b.now s.at) × NextSum (2 ^ 16) c.loop-i.i c.loop-i.high (c.distance-d.result / 256) (high_at s.a.now s.b.now s.at) = let s = c.args in
+    let i< : c.loop-i.i < s.n = omega arith in (
+      low_next s.a.now s.b.now s.at s.n c.requires.n_bound c.loop-i.i c.loop-i.low _ i< c.loop-i.invariant.1 (ap (λ (d : ℕ). d % 256) c.distance-d.ensures),
+      high_next s.a.now s.b.now s.at s.n c.requires.n_bound
+          (λ j. omega (arith, c.shared_slice_known-1.given j)) (λ j. omega (arith, c.shared_slice_known-2-1.given j))
+          c.loop-i.i c.loop-i.high _ i< c.loop-i.invariant.2 (ap (λ (d : ℕ). d / 256) c.distance-d.ensures),
     ) in
-    let l = c in
-    let s = l.args in
-    (search rules, next.0.0, next.1.0, reach_both (large_from s.a.now s.b.now s.at) _ l.loop-i.i _ _ l.loop-i.invariant.3 (λ n. refl))
+    let s = c.args in
+    (search rules, next.0.0, next.1.0, reach_both (large_from s.a.now s.b.now s.at) _ c.loop-i.i _ _ c.loop-i.invariant.3 (λ n. refl))
 
 pub returns : goal.returns
 returns c =
@@ -35,26 +33,22 @@ loop-i-init c = (search rules, sum_none _, sum_none _, reach_none _)
 
 pub overflow_add-low : goal.overflow_add-low
 overflow_add-low c =
-    let next : let l = c in let s = l.args in NextSum (2 ^ 16) l.loop-i.i l.loop-i.low (c.distance-d.result % 256) (low_at s.a.now s.b.now s.at) × NextSum (2 ^ 16) l.loop-i.i l.loop-i.high (c.distance-d.result / 256) (high_at s.a.now s.b.now s.at) = let l = c in
-    let k = l in
-    let s = k.args in
-    let i< : l.loop-i.i < s.n = omega arith in (
-      low_next s.a.now s.b.now s.at s.n k.requires.n_bound l.loop-i.i l.loop-i.low _ i< l.loop-i.invariant.1 (ap (λ (d : ℕ). d % 256) c.distance-d.ensures),
-      high_next s.a.now s.b.now s.at s.n k.requires.n_bound
-          (λ j. omega (arith, k.shared_slice_known-1.given j)) (λ j. omega (arith, k.shared_slice_known-2-1.given j))
-          l.loop-i.i l.loop-i.high _ i< l.loop-i.invariant.2 (ap (λ (d : ℕ). d / 256) c.distance-d.ensures),
+    let next : let s = c.args in NextSum (2 ^ 16) c.loop-i.i c.loop-i.low (c.distance-d.result % 256) (low_at s.a.now s.b.now s.at) × NextSum (2 ^ 16) c.loop-i.i c.loop-i.high (c.distance-d.result / 256) (high_at s.a.now s.b.now s.at) = let s = c.args in
+    let i< : c.loop-i.i < s.n = omega arith in (
+      low_next s.a.now s.b.now s.at s.n c.requires.n_bound c.loop-i.i c.loop-i.low _ i< c.loop-i.invariant.1 (ap (λ (d : ℕ). d % 256) c.distance-d.ensures),
+      high_next s.a.now s.b.now s.at s.n c.requires.n_bound
+          (λ j. omega (arith, c.shared_slice_known-1.given j)) (λ j. omega (arith, c.shared_slice_known-2-1.given j))
+          c.loop-i.i c.loop-i.high _ i< c.loop-i.invariant.2 (ap (λ (d : ℕ). d / 256) c.distance-d.ensures),
     ) in
     record { fits = next.0.1 }
 
 pub overflow_add-high : goal.overflow_add-high
 overflow_add-high c =
-    let next : let l = c in let s = l.args in NextSum (2 ^ 16) l.loop-i.i l.loop-i.low (c.distance-d.result % 256) (low_at s.a.now s.b.now s.at) × NextSum (2 ^ 16) l.loop-i.i l.loop-i.high (c.distance-d.result / 256) (high_at s.a.now s.b.now s.at) = let l = c in
-    let k = l in
-    let s = k.args in
-    let i< : l.loop-i.i < s.n = omega arith in (
-      low_next s.a.now s.b.now s.at s.n k.requires.n_bound l.loop-i.i l.loop-i.low _ i< l.loop-i.invariant.1 (ap (λ (d : ℕ). d % 256) c.distance-d.ensures),
-      high_next s.a.now s.b.now s.at s.n k.requires.n_bound
-          (λ j. omega (arith, k.shared_slice_known-1.given j)) (λ j. omega (arith, k.shared_slice_known-2-1.given j))
-          l.loop-i.i l.loop-i.high _ i< l.loop-i.invariant.2 (ap (λ (d : ℕ). d / 256) c.distance-d.ensures),
+    let next : let s = c.args in NextSum (2 ^ 16) c.loop-i.i c.loop-i.low (c.distance-d.result % 256) (low_at s.a.now s.b.now s.at) × NextSum (2 ^ 16) c.loop-i.i c.loop-i.high (c.distance-d.result / 256) (high_at s.a.now s.b.now s.at) = let s = c.args in
+    let i< : c.loop-i.i < s.n = omega arith in (
+      low_next s.a.now s.b.now s.at s.n c.requires.n_bound c.loop-i.i c.loop-i.low _ i< c.loop-i.invariant.1 (ap (λ (d : ℕ). d % 256) c.distance-d.ensures),
+      high_next s.a.now s.b.now s.at s.n c.requires.n_bound
+          (λ j. omega (arith, c.shared_slice_known-1.given j)) (λ j. omega (arith, c.shared_slice_known-2-1.given j))
+          c.loop-i.i c.loop-i.high _ i< c.loop-i.invariant.2 (ap (λ (d : ℕ). d / 256) c.distance-d.ensures),
     ) in
     record { fits = next.1.1 }

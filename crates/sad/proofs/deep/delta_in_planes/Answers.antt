@@ -22,12 +22,12 @@ returns-in_default c =
     let large : Bool = let s = c.args in too_large s.depth s.p s.a.now || too_large s.depth s.q s.b.now in
     let difference : ℕ = let s = c.args in plane_sad s.p s.a.now s.q s.b.now in
     let samples : let s = c.args in refusal 16 large ≡ pair_fault deep s.depth s.p s.a.now s.q s.b.now = let s = c.args in pair_fault_is deep s.depth s.p s.a.now s.q s.b.now (sym c.if-fault-ne0.false ∙ c.shapes_fault-fault.ensures) in
-    let d = c in
-    let none = refused_given large difference d.sad_plane.result d.sad_plane.ensures _ c.in_default.is in
+    let none = refused_given large difference c.sad_plane.result c.sad_plane.ensures _ c.in_default.is in
     answer_refused 16 _ _ (none ∙ samples) (λ e. omega arith)
 
 pub overflow_mul-p : goal.overflow_mul-p
 overflow_mul-p c =
+    -- past the test the shapes are not refused, and the samples decide
     let sizes : let s = c.args in sizes_fault s.p (length s.a.now) s.q (length s.b.now) ≡ 0 = (by_shapes deep _ _ _ _ _ (sym c.shapes_fault-fault.ensures ∙ c.if-fault-ne0.false)).1 in
     let f = (pair _ _ _ _ sizes).first in
     record { fits = omega (arith, mul-le-mul f.width_most f.height_most) }
@@ -37,10 +37,8 @@ returns c =
     let large : Bool = let s = c.args in too_large s.depth s.p s.a.now || too_large s.depth s.q s.b.now in
     let difference : ℕ = let s = c.args in plane_sad s.p s.a.now s.q s.b.now in
     let samples : let s = c.args in refusal 16 large ≡ pair_fault deep s.depth s.p s.a.now s.q s.b.now = let s = c.args in pair_fault_is deep s.depth s.p s.a.now s.q s.b.now (sym c.if-fault-ne0.false ∙ c.shapes_fault-fault.ensures) in
-    let t = c in
-    let d = t in
-    let p = d.args.p in
-    let n = number_given large difference d.sad_plane.result d.sad_plane.ensures _ t.in-Number.is in
+    let p = c.args.p in
+    let n = number_given large difference c.sad_plane.result c.sad_plane.ensures _ c.in-Number.is in
     answer_given _ _ _ (n.0 ∙ samples) (c.quotient.ensures ∙ ap (λ (total : ℕ). quotient_of total (p.width * p.height)) n.1)
 
 pub sad_plane-requires : goal.sad_plane-requires

@@ -1,6 +1,6 @@
 -- `sad::deep::row_sad` meets its contract: after each turn the sum and the bits are those of the row up to the next chunk. Assumes nothing.
 use mathlib.Core.Path.{◌≡◌}
-use Prim.Native.Nat.{◌+◌, ◌*◌, ◌<◌, ◌-◌, ◌^◌}
+use Prim.Native.Nat.{◌+◌, ◌*◌, ◌<◌, ◌^◌}
 use native.Mathlib.Omega.{arith}
 use borrow.Author.Rules.{rules}
 use lib.ListN.{length}
@@ -18,19 +18,16 @@ loop-at-init c = (search rules, search rules, sum_none _, reach_none _)
 
 pub loop-at-preserved : goal.loop-at-preserved
 loop-at-preserved c =
-    let next : let l = c in let s = l.args in let end = l.loop-at.at + c.lesser-n.result in let sum = l.loop-at.sum + (c.chunk_sad-chunk.result.low + 256 * c.chunk_sad-chunk.result.high) in (sum ≡ sum_below end (gap_at s.a.now s.b.now)) × (sum < 2 ^ 32) = let l = c in
-    let k = l in
-    let s = k.args in
-    let end = l.loop-at.at + c.lesser-n.result in
-    let is = row_more s.a.now s.b.now l.loop-at.at c.lesser-n.result l.loop-at.sum _ l.loop-at.invariant.2 c.chunk_sad-chunk.ensures.high_value in
+    -- a turn of the sum
+    let next : let s = c.args in let end = c.loop-at.at + c.lesser-n.result in let sum = c.loop-at.sum + (c.chunk_sad-chunk.result.low + 256 * c.chunk_sad-chunk.result.high) in (sum ≡ sum_below end (gap_at s.a.now s.b.now)) × (sum < 2 ^ 32) = let s = c.args in
+    let end = c.loop-at.at + c.lesser-n.result in
+    let is = row_more s.a.now s.b.now c.loop-at.at c.lesser-n.result c.loop-at.sum _ c.loop-at.invariant.2 c.chunk_sad-chunk.ensures.high_value in
     let fits = row_fits word_most s.a.now s.b.now
-    (λ i. omega (arith, k.shared_slice_known-1.given i)) (λ i. omega (arith, k.shared_slice_known-2-1.given i))
+    (λ i. omega (arith, c.shared_slice_known-1.given i)) (λ i. omega (arith, c.shared_slice_known-2-1.given i))
     end (2 ^ 32) (omega arith) (omega arith) in
     (is, omega (arith, is, fits)) in
-    let d = c in
-    let l = d in
-    let s = l.args in
-    (search rules, search rules, next.0, reach_part s.a.now s.b.now l.loop-at.bits l.loop-at.at _ d.lesser-n.result l.loop-at.invariant.3 d.chunk_sad-chunk.ensures.by_index)
+    let s = c.args in
+    (search rules, search rules, next.0, reach_part s.a.now s.b.now c.loop-at.bits c.loop-at.at _ c.lesser-n.result c.loop-at.invariant.3 c.chunk_sad-chunk.ensures.by_index)
 
 pub returns : goal.returns
 returns c =
@@ -41,26 +38,22 @@ returns c =
 
 pub overflow_add-sum : goal.overflow_add-sum
 overflow_add-sum c =
-    let next : let l = c in let s = l.args in let end = l.loop-at.at + c.lesser-n.result in let sum = l.loop-at.sum + (c.chunk_sad-chunk.result.low + 256 * c.chunk_sad-chunk.result.high) in (sum ≡ sum_below end (gap_at s.a.now s.b.now)) × (sum < 2 ^ 32) = let l = c in
-    let k = l in
-    let s = k.args in
-    let end = l.loop-at.at + c.lesser-n.result in
-    let is = row_more s.a.now s.b.now l.loop-at.at c.lesser-n.result l.loop-at.sum _ l.loop-at.invariant.2 c.chunk_sad-chunk.ensures.high_value in
+    let next : let s = c.args in let end = c.loop-at.at + c.lesser-n.result in let sum = c.loop-at.sum + (c.chunk_sad-chunk.result.low + 256 * c.chunk_sad-chunk.result.high) in (sum ≡ sum_below end (gap_at s.a.now s.b.now)) × (sum < 2 ^ 32) = let s = c.args in
+    let end = c.loop-at.at + c.lesser-n.result in
+    let is = row_more s.a.now s.b.now c.loop-at.at c.lesser-n.result c.loop-at.sum _ c.loop-at.invariant.2 c.chunk_sad-chunk.ensures.high_value in
     let fits = row_fits word_most s.a.now s.b.now
-    (λ i. omega (arith, k.shared_slice_known-1.given i)) (λ i. omega (arith, k.shared_slice_known-2-1.given i))
+    (λ i. omega (arith, c.shared_slice_known-1.given i)) (λ i. omega (arith, c.shared_slice_known-2-1.given i))
     end (2 ^ 32) (omega arith) (omega arith) in
     (is, omega (arith, is, fits)) in
     omega (arith, next.1)
 
 pub overflow_add-sum-in-loop-at : goal.overflow_add-sum-in-loop-at
 overflow_add-sum-in-loop-at c =
-    let next : let l = c in let s = l.args in let end = l.loop-at.at + c.lesser-n.result in let sum = l.loop-at.sum + (c.chunk_sad-chunk.result.low + 256 * c.chunk_sad-chunk.result.high) in (sum ≡ sum_below end (gap_at s.a.now s.b.now)) × (sum < 2 ^ 32) = let l = c in
-    let k = l in
-    let s = k.args in
-    let end = l.loop-at.at + c.lesser-n.result in
-    let is = row_more s.a.now s.b.now l.loop-at.at c.lesser-n.result l.loop-at.sum _ l.loop-at.invariant.2 c.chunk_sad-chunk.ensures.high_value in
+    let next : let s = c.args in let end = c.loop-at.at + c.lesser-n.result in let sum = c.loop-at.sum + (c.chunk_sad-chunk.result.low + 256 * c.chunk_sad-chunk.result.high) in (sum ≡ sum_below end (gap_at s.a.now s.b.now)) × (sum < 2 ^ 32) = let s = c.args in
+    let end = c.loop-at.at + c.lesser-n.result in
+    let is = row_more s.a.now s.b.now c.loop-at.at c.lesser-n.result c.loop-at.sum _ c.loop-at.invariant.2 c.chunk_sad-chunk.ensures.high_value in
     let fits = row_fits word_most s.a.now s.b.now
-    (λ i. omega (arith, k.shared_slice_known-1.given i)) (λ i. omega (arith, k.shared_slice_known-2-1.given i))
+    (λ i. omega (arith, c.shared_slice_known-1.given i)) (λ i. omega (arith, c.shared_slice_known-2-1.given i))
     end (2 ^ 32) (omega arith) (omega arith) in
     (is, omega (arith, is, fits)) in
     omega (arith, next.1)

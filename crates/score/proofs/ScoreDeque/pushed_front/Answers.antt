@@ -21,8 +21,7 @@ loop-i-init c = (omega arith, begin _ _)
 
 pub loop-i-preserved : goal.loop-i-preserved
 loop-i-preserved c =
-    let s = c in
-    let long : length s.args.self.entries ≡ room = roomy s.args.self _ s.well_formed.0 in
+    let long : length c.args.self.entries ≡ room = roomy c.args.self _ c.well_formed.0 in
     let n = c.lesser-last.ensures in
     (omega arith, more _ _ _ _ _ _ (omega arith) c.loop-i.invariant.1)
 

@@ -20,15 +20,13 @@ cut_at-requires c = (omega arith, c.within-e.ensures.1)
 
 pub returns-then-o-e : goal.returns-then-o-e
 returns-then-o-e c =
-    let w = c in
-    let d = w.args.d in
-    rw (← entries_of_lem w.within-e.result (content d) w.within-e.ensures.0) c.cut_at.ensures
+    let d = c.args.d in
+    rw (← entries_of_lem c.within-e.result (content d) c.within-e.ensures.0) c.cut_at.ensures
 
 pub returns : goal.returns
 unfolding cut_of
 returns c =
-    let w = c in
-    let d = w.args.d in
-    let k = count_of w.within-e.result (content d) w.within-e.ensures.0 in
-    let none : get_or (content d) w.args.o no_score ≡ no_score = get_or-eq_default (content d) no_score (omega arith) in
-    rw (none, unset) (sym (and-false (any_of (reached w.args.t) (drop w.args.o (content d)))))
+    let d = c.args.d in
+    let k = count_of c.within-e.result (content d) c.within-e.ensures.0 in
+    let none : get_or (content d) c.args.o no_score ≡ no_score = get_or-eq_default (content d) no_score (omega arith) in
+    rw (none, unset) (sym (and-false (any_of (reached c.args.t) (drop c.args.o (content d)))))

@@ -2,7 +2,7 @@
 -- Assumes nothing.
 use mathlib.Core.Path.{◌≡◌, sym, ◌∙◌}
 use mathlib.Core.Bool.{◌||◌}
-use Prim.Native.Nat.{◌+◌, ◌-◌}
+use Prim.Native.Nat.{◌+◌}
 use lib.ListN.{length, drop, get_or}
 use lib.Seq.{get_or-take}
 use Rattle.settings.specs.Settings.{room}
@@ -19,12 +19,12 @@ returns-then-is_asked c =
     let filled : length (content c.args.d) ≡ c.args.d.count = let d = c.args.d in
     let r : length d.entries ≡ room = roomy d _ c.well_formed.1.1.0 in
     long d r (omega arith) in
+    -- the search at an entry
     let here : any_of (asked c.args.importance c.args.t) (drop c.loop-i.i (content c.args.d)) ≡ asked c.args.importance c.args.t (get_or c.args.d.entries c.loop-i.i no_score) || any_of (asked c.args.importance c.args.t) (drop (c.loop-i.i + 1) (content c.args.d)) = let d = c.args.d in
     any_more _ (content d) c.loop-i.i no_score (omega (arith, filled))
     ∙ rw (get_or-take d.count d.entries c.loop-i.i no_score c.loop-i-test.true) in
-    let b = c in
     let k = c.is_asked.ensures in
-    sym (b.loop-i.invariant ∙ here ∙ rw (sym k ∙ c.if-is_asked.true))
+    sym (c.loop-i.invariant ∙ here ∙ rw (sym k ∙ c.if-is_asked.true))
 
 pub loop-i-preserved : goal.loop-i-preserved
 loop-i-preserved c =
@@ -34,9 +34,8 @@ loop-i-preserved c =
     let here : any_of (asked c.args.importance c.args.t) (drop c.loop-i.i (content c.args.d)) ≡ asked c.args.importance c.args.t (get_or c.args.d.entries c.loop-i.i no_score) || any_of (asked c.args.importance c.args.t) (drop (c.loop-i.i + 1) (content c.args.d)) = let d = c.args.d in
     any_more _ (content d) c.loop-i.i no_score (omega (arith, filled))
     ∙ rw (get_or-take d.count d.entries c.loop-i.i no_score c.loop-i-test.true) in
-    let b = c in
     let k = c.is_asked.ensures in
-    b.loop-i.invariant ∙ here ∙ rw (sym k ∙ c.if-is_asked.false)
+    c.loop-i.invariant ∙ here ∙ rw (sym k ∙ c.if-is_asked.false)
 
 pub returns : goal.returns
 returns c =

@@ -9,5 +9,4 @@ any_asked-requires c = c.within-e.ensures.1
 
 pub returns : goal.returns
 returns c =
-    let w = c in
-    rw (← entries_of_lem w.within-e.result (content w.args.d) w.within-e.ensures.0) c.any_asked.ensures
+    rw (← entries_of_lem c.within-e.result (content c.args.d) c.within-e.ensures.0) c.any_asked.ensures

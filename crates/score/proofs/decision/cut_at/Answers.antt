@@ -13,35 +13,24 @@ use Rattle.score.proofs.decision.cut_at.Goals as goal
 pub returns-then-is_over : goal.returns-then-is_over
 unfolding cut_of
 returns-then-is_over c =
-    let j2 = c in
-    let v2 = j2 in
-    let v1 = v2 in
-    let t2 = v1 in
-    let j1 = t2 in
-    let t1 = j1 in
-    let a = t1 in
-    let d = a.args.d in
-    let o = a.args.o in
-    let reach : any_of (reached a.args.t) (drop o (content d)) ≡ true = sym a.any_asked.ensures ∙ t1.if-any_asked.true in
-    let here : over true (get_or (content d) o no_score) ≡ true = rw (get_or-take d.count d.entries o no_score (omega arith)) (sym j1.is_over.ensures ∙ t2.if-is_over.true) in
+    let d = c.args.d in
+    let o = c.args.o in
+    let reach : any_of (reached c.args.t) (drop o (content d)) ≡ true = sym c.any_asked.ensures ∙ c.if-any_asked.true in
+    let here : over true (get_or (content d) o no_score) ≡ true = rw (get_or-take d.count d.entries o no_score (omega arith)) (sym c.is_over.ensures ∙ c.if-is_over.true) in
     c.no_flash.ensures
-    ∙ rw (reach, here, j2.is_over-first.ensures, v1.overs-before.ensures, v2.overs-after.ensures, take-take o d.count d.entries (omega arith), get_or-take d.count d.entries 0 no_score (omega arith))
+    ∙ rw (reach, here, c.is_over-first.ensures, c.overs-before.ensures, c.overs-after.ensures, take-take o d.count d.entries (omega arith), get_or-take d.count d.entries 0 no_score (omega arith))
 
 pub returns-then-any_asked : goal.returns-then-any_asked
 unfolding cut_of
 returns-then-any_asked c =
-    let j1 = c in
-    let t1 = j1 in
-    let a = t1 in
-    let d = a.args.d in
-    let o = a.args.o in
-    let reach : any_of (reached a.args.t) (drop o (content d)) ≡ true = sym a.any_asked.ensures ∙ t1.if-any_asked.true in
-    let here : over true (get_or (content d) o no_score) ≡ false = rw (get_or-take d.count d.entries o no_score (omega arith)) (sym j1.is_over.ensures ∙ c.if-is_over.false) in
+    let d = c.args.d in
+    let o = c.args.o in
+    let reach : any_of (reached c.args.t) (drop o (content d)) ≡ true = sym c.any_asked.ensures ∙ c.if-any_asked.true in
+    let here : over true (get_or (content d) o no_score) ≡ false = rw (get_or-take d.count d.entries o no_score (omega arith)) (sym c.is_over.ensures ∙ c.if-is_over.false) in
     rw (reach, here)
 
 pub returns : goal.returns
 unfolding cut_of
 returns c =
-    let a = c in
-    let reach : any_of (reached a.args.t) (drop a.args.o (content a.args.d)) ≡ false = sym a.any_asked.ensures ∙ c.if-any_asked.false in
+    let reach : any_of (reached c.args.t) (drop c.args.o (content c.args.d)) ≡ false = sym c.any_asked.ensures ∙ c.if-any_asked.false in
     rw reach

@@ -1,7 +1,6 @@
 -- `is_misnumbered` meets its contract: as long as no two neighbours before entry i were astray, the search from the start is the search
 use mathlib.Core.Path.{◌≡◌, refl, sym, ◌∙◌, ap}
 use mathlib.Core.Bool.{◌||◌, cond}
-use mathlib.Core.Logic.{⊎_elim}
 use mathlib.Core.List.{List}
 use Prim.Native.Nat.{ℕ, suc, ◌+◌, ◌-◌, ◌≤◌, ◌<◌, min}
 use native.Mathlib.Nat.{zero-add}
@@ -65,7 +64,6 @@ returns-then-ahead-behind c =
     let ahead : ℕ = number_at c.args.d r c.loop-i.i (c.loop-i.i - 1) in
     let behind : ℕ = number_at c.args.d r c.loop-i.i c.loop-i.i in
     let search-here : any_of are_astray (neighbours (numbers_of (content c.args.d))) ≡ are_astray (ahead, behind) || any_of are_astray (drop (c.loop-i.i + 1 - 1) (neighbours (numbers_of (content c.args.d)))) = c.loop-i.invariant.3 ∙ any_here c.args.d r c.loop-i.i (omega arith) (omega arith) in
-    let b = c in
     rw (search-here, two_behind ahead behind c.if-ahead-behind.true)
 
 pub returns-then-fall-gt1 : goal.returns-then-fall-gt1
@@ -74,7 +72,6 @@ returns-then-fall-gt1 c =
     let ahead : ℕ = number_at c.args.d r c.loop-i.i (c.loop-i.i - 1) in
     let behind : ℕ = number_at c.args.d r c.loop-i.i c.loop-i.i in
     let search-here : any_of are_astray (neighbours (numbers_of (content c.args.d))) ≡ are_astray (ahead, behind) || any_of are_astray (drop (c.loop-i.i + 1 - 1) (neighbours (numbers_of (content c.args.d)))) = c.loop-i.invariant.3 ∙ any_here c.args.d r c.loop-i.i (omega arith) (omega arith) in
-    let b = c in
     rw (search-here, two_far ahead behind (omega arith))
 
 pub loop-i-preserved : goal.loop-i-preserved
@@ -84,20 +81,20 @@ loop-i-preserved c =
     let behind : ℕ = number_at c.args.d r c.loop-i.i c.loop-i.i in
     let search-here : any_of are_astray (neighbours (numbers_of (content c.args.d))) ≡ are_astray (ahead, behind) || any_of are_astray (drop (c.loop-i.i + 1 - 1) (neighbours (numbers_of (content c.args.d)))) = c.loop-i.invariant.3 ∙ any_here c.args.d r c.loop-i.i (omega arith) (omega arith) in
     let counted-here : count_of are_equal (neighbours (numbers_of (content c.args.d))) ≡ c.loop-i.equal + (cond (are_equal (ahead, behind)) 1 0 + count_of are_equal (drop (c.loop-i.i + 1 - 1) (neighbours (numbers_of (content c.args.d))))) = c.loop-i.invariant.4 ∙ ap (λ (n : ℕ). c.loop-i.equal + n) (count-here c.args.d r c.loop-i.i (omega arith) (omega arith)) in
-    let b = c in
     elim c.if-fall-eq0.branch [
       | then-fall-eq0 w ↦
           let two = two_equal ahead behind (omega arith) in
           let k = rw two.1 at counted-here in
-          (omega arith, omega (arith, w.equal-is), b.loop-i.invariant.2, rw two.0 at search-here, omega (arith, w.equal-is, k))
+          (omega arith, omega (arith, w.equal-is), c.loop-i.invariant.2, rw two.0 at search-here, omega (arith, w.equal-is, k))
       | else-fall-eq0 w ↦
           let two = two_fall ahead behind (omega (arith, w.if-fall-eq0.false)) in
           let k = rw two.1 at counted-here in
-          (omega arith, omega (arith, w.equal-is), b.loop-i.invariant.2, rw two.0 at search-here, omega (arith, w.equal-is, k))
+          (omega arith, omega (arith, w.equal-is), c.loop-i.invariant.2, rw two.0 at search-here, omega (arith, w.equal-is, k))
     ]
 
 pub returns : goal.returns
 returns c =
+    -- what the loop looks at
     let d = c.args.d in
     let i = c.loop-i.i in
     let r : length d.entries ≡ room = roomy d _ c.well_formed.0 in

@@ -2,7 +2,7 @@
 -- Assumes nothing.
 use mathlib.Core.Path.{◌≡◌, refl, sym, ◌∙◌, ap}
 use mathlib.Core.List.{List, map}
-use Prim.Native.Nat.{◌-◌, ◌<◌}
+use Prim.Native.Nat.{◌<◌}
 use lib.ListN.{length, get_or, length-take, length-map, get_or-map}
 use lib.Seq.{get_or-take}
 use lib.Ieee.{Float, nan}
@@ -33,10 +33,9 @@ loop-i-preserved c =
     get_or-take c.args.o (map inter (content d)) i nan (omega arith)
     ∙ get_or-map inter (content d) i no_score
     ∙ ap inter (get_or-take d.count d.entries i no_score (omega arith)) in
-    let b = c in
-    let go = walk_go _ b.loop-i.least part b.loop-i.i _ entry inside c.if-difference.false in (
+    let go = walk_go _ c.loop-i.least part c.loop-i.i _ entry inside c.if-difference.false in (
       omega arith,
-      b.loop-i.invariant.1 ∙ go ∙ elim c.if-difference-least.branch [
+      c.loop-i.invariant.1 ∙ go ∙ elim c.if-difference-least.branch [
         | then-difference-least w ↦ rw (w.if-difference-least.true, w.least-is)
         | else-difference-least w ↦ rw (w.if-difference-least.false, w.least-is)
       ],

@@ -9,8 +9,7 @@ use Rattle.score.proofs.scoring.run_comparison.Goals as goal
 
 pub returns-then-fast : goal.returns-then-fast
 returns-then-fast c =
-    let w = c in
-    let e = entries_of_lem w.within-e.result (content w.args.d) w.within-e.ensures.0 in
+    let e = entries_of_lem c.within-e.result (content c.args.d) c.within-e.ensures.0 in
     rw c.if-fast.true (c.pushed_front.ensures ∙ rw (c.fast_score-s.ensures, e))
 
 pub back_cost-back-requires : goal.back_cost-back-requires
@@ -21,7 +20,5 @@ updated-u-requires c = c.within-e.ensures.1
 
 pub returns : goal.returns
 returns c =
-    let b = c in
-    let w = b in
-    let e = entries_of_lem w.within-e.result (content w.args.d) w.within-e.ensures.0 in
-    rw b.if-fast.false (c.pushed_front-2.ensures ∙ rw (c.standard_score-s.ensures, b.back_cost-back.ensures, c.updated-u.ensures, e))
+    let e = entries_of_lem c.within-e.result (content c.args.d) c.within-e.ensures.0 in
+    rw c.if-fast.false (c.pushed_front-2.ensures ∙ rw (c.standard_score-s.ensures, c.back_cost-back.ensures, c.updated-u.ensures, e))

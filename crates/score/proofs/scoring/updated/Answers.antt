@@ -2,7 +2,7 @@
 -- Assumes nothing.
 use mathlib.Core.Path.{◌≡◌, refl, sym}
 use mathlib.Core.Bool.{true}
-use Prim.Native.Nat.{◌-◌, min}
+use Prim.Native.Nat.{min}
 use lib.ListN.{length}
 use Rattle.settings.specs.Settings.{room}
 use Rattle.score.specs.Deque.{no_score}
@@ -16,13 +16,12 @@ loop-i-init c = (omega arith, (refl, refl))
 
 pub loop-i-preserved : goal.loop-i-preserved
 loop-i-preserved c =
-    let b = c in
-    let d = b.args.d in
-    let r : length d.entries ≡ room = roomy d _ b.well_formed.0 in (
+    let d = c.args.d in
+    let r : length d.entries ≡ room = roomy d _ c.well_formed.0 in (
       omega arith,
       (
-        rw (c.with_forward-f.ensures, b.loop-i.invariant.1.0) (sym (update_more _ no_score b.loop-i.i d.entries (omega arith))),
-        b.loop-i.invariant.1.1,
+        rw (c.with_forward-f.ensures, c.loop-i.invariant.1.0) (sym (update_more _ no_score c.loop-i.i d.entries (omega arith))),
+        c.loop-i.invariant.1.1,
       ),
     )
 

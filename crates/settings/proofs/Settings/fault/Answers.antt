@@ -17,7 +17,6 @@ returns-then-size-ne0 c =
 pub returns : goal.returns
 unfolding settings_fault
 returns c =
-    let s = c in
-    let g = s.args.self in
-    or_later _ (size_fault g.width g.height g.mode) (depth_fault g.bit_depth) (sym c.if-size-ne0.false ∙ s.size_fault-size.ensures)
+    let g = c.args.self in
+    or_later _ (size_fault g.width g.height g.mode) (depth_fault g.bit_depth) (sym c.if-size-ne0.false ∙ c.size_fault-size.ensures)
     c.depth_fault.ensures

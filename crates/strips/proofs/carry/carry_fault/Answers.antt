@@ -9,10 +9,8 @@ returns-then-numbers-ne-CARRY c = another_length _ c.if-numbers-ne-CARRY.true
 
 pub returns-then-carry_unfit : goal.returns-then-carry_unfit
 returns-then-carry_unfit c =
-    let u = c in
-    unfit_refused _ u.if-numbers-ne-CARRY.false (sym (ap carry_unfit u.lent_carry.ensures) ∙ sym u.carry_unfit.ensures ∙ c.if-carry_unfit.true)
+    unfit_refused _ c.if-numbers-ne-CARRY.false (sym (ap carry_unfit c.lent_carry.ensures) ∙ sym c.carry_unfit.ensures ∙ c.if-carry_unfit.true)
 
 pub returns-else-carry_unfit : goal.returns-else-carry_unfit
 returns-else-carry_unfit c =
-    let u = c in
-    fit_passed _ u.if-numbers-ne-CARRY.false (sym (ap carry_unfit u.lent_carry.ensures) ∙ sym u.carry_unfit.ensures ∙ c.if-carry_unfit.false)
+    fit_passed _ c.if-numbers-ne-CARRY.false (sym (ap carry_unfit c.lent_carry.ensures) ∙ sym c.carry_unfit.ensures ∙ c.if-carry_unfit.false)

@@ -9,15 +9,15 @@ use Rattle.strips.proofs.carry.carry_unfit.Goals as goal
 
 pub returns-then-bad_side-height : goal.returns-then-bad_side-height
 returns-then-bad_side-height c =
-    let k = c in
-    unfit_by k.args.c (rw (← k.bad_side.ensures, ← k.bad_side-2.ensures) c.if-bad_side-height.true)
+    unfit_by c.args.c (rw (← c.bad_side.ensures, ← c.bad_side-2.ensures) c.if-bad_side-height.true)
 
 pub totals_past-requires : goal.totals_past-requires
 totals_past-requires c =
-    let sides : let d = c.args.c in bad_side d.width || bad_side d.height || ltb d.height d.rows ≡ false = let k = c in rw (← k.bad_side.ensures, ← k.bad_side-2.ensures) c.if-bad_side-height.false in
+    -- past the test the sides and the rows fit
+    let sides : let d = c.args.c in bad_side d.width || bad_side d.height || ltb d.height d.rows ≡ false = rw (← c.bad_side.ensures, ← c.bad_side-2.ensures) c.if-bad_side-height.false in
     let f = sides_fit c.args.c sides in (omega (arith, f.1.1, f.2), f.0.1)
 
 pub returns : goal.returns
 returns c =
-    let sides : let d = c.args.c in bad_side d.width || bad_side d.height || ltb d.height d.rows ≡ false = let k = c in rw (← k.bad_side.ensures, ← k.bad_side-2.ensures) c.if-bad_side-height.false in
+    let sides : let d = c.args.c in bad_side d.width || bad_side d.height || ltb d.height d.rows ≡ false = rw (← c.bad_side.ensures, ← c.bad_side-2.ensures) c.if-bad_side-height.false in
     c.totals_past.ensures ∙ unfit_is c.args.c sides

@@ -8,19 +8,19 @@ pub overflow_mul-area : goal.overflow_mul-area
 overflow_mul-area c = omega (arith, area_most c.args.c c.requires)
 
 pub overflow_mul-area-then-depth-eq8 : goal.overflow_mul-area-then-depth-eq8
-overflow_mul-area-then-depth-eq8 c = let s = c in omega (arith, area_most s.args.c s.requires)
+overflow_mul-area-then-depth-eq8 c = omega (arith, area_most c.args.c c.requires)
 
 pub returns-then-depth-eq8 : goal.returns-then-depth-eq8
 returns-then-depth-eq8 c = c.is_above.ensures ∙ past_at c.args.c 8 255 c.if-depth-eq8.true eight refl
 
 pub overflow_mul-area-then-depth-eq10 : goal.overflow_mul-area-then-depth-eq10
-overflow_mul-area-then-depth-eq10 c = let s = c in omega (arith, area_most s.args.c s.requires)
+overflow_mul-area-then-depth-eq10 c = omega (arith, area_most c.args.c c.requires)
 
 pub returns-then-depth-eq10 : goal.returns-then-depth-eq10
 returns-then-depth-eq10 c = c.is_above-then-depth-eq10.ensures ∙ past_at c.args.c 10 1023 c.if-depth-eq10.true ten refl
 
 pub overflow_mul-area-then-depth-eq12 : goal.overflow_mul-area-then-depth-eq12
-overflow_mul-area-then-depth-eq12 c = let s = c in omega (arith, area_most s.args.c s.requires)
+overflow_mul-area-then-depth-eq12 c = omega (arith, area_most c.args.c c.requires)
 
 pub returns-then-depth-eq12 : goal.returns-then-depth-eq12
 returns-then-depth-eq12 c = c.is_above-then-depth-eq12.ensures ∙ past_at c.args.c 12 4095 c.if-depth-eq12.true twelve refl

@@ -13,21 +13,22 @@ use Rattle.strips.proofs.deep.add_row.Goals as goal
 
 pub hold_row-requires : goal.hold_row-requires
 hold_row-requires c =
+    -- the strips are planes of one size
     let planes : Pair c.args.p (length c.args.a.now) c.args.q (length c.args.b.now) = pair _ _ _ _ (c.requires.taken.sizes (let h = c.requires.j_lt_height in omega arith)) in
-    let s = c in
     let h = planes in
-    let t = s.requires.taken in record {
+    let t = c.requires.taken in record {
       width_le_max_side = t.carry.width_most;
       c_in_bounds = t.enough;
       first_len = (
-        ap length c.row.ensures ∙ length_row _ _ _ h.first s.requires.j_lt_height ∙ t.width,
-        ap length c.row-2.ensures ∙ length_row _ _ _ h.second (omega (arith, s.requires.j_lt_height, h.heights)) ∙ sym h.widths ∙ t.width,
+        ap length c.row.ensures ∙ length_row _ _ _ h.first c.requires.j_lt_height ∙ t.width,
+        ap length c.row-2.ensures ∙ length_row _ _ _ h.second (omega (arith, c.requires.j_lt_height, h.heights)) ∙ sym h.widths ∙ t.width,
       );
     }
 
 pub finish-requires : goal.finish-requires
 finish-requires c =
     let planes : Pair c.args.p (length c.args.a.now) c.args.q (length c.args.b.now) = pair _ _ _ _ (c.requires.taken.sizes (let h = c.requires.j_lt_height in omega arith)) in
+    -- what the room holds then
     let room-is : let s = c.args in c.hold_row.new.room ≡ room_row s.c (strip s.p s.a.now s.q s.b.now) s.j (s.c.rows + s.j) s.room.now = let s = c in
     let g = s.args in
     let h = planes in
@@ -40,8 +41,7 @@ finish-requires c =
     let same : length c.hold_row.new.room ≡ length g.room.now =
     ap length room-is ∙ length_room g.c (strip g.p g.a.now g.q g.b.now) g.j (g.c.rows + g.j) g.room.now in
     omega (arith, s.requires.taken.enough, same) in
-    let r = c in
-    let s = r in
+    let s = c in
     let t = s.requires.taken in record { sound = t.carry; c_in_bounds = room_long_lem; y_lt_max_side = let h = s.requires.j_lt_height in omega (arith, t.rows, t.carry); c_in_bounds_2 = finished_in s.args.c s.args.j _ c.if-y.true (let h = s.requires.j_lt_height in omega (arith, t.rows)) t.list }
 
 pub returns-then-y : goal.returns-then-y
@@ -59,15 +59,12 @@ returns-then-y c =
     let same : length c.hold_row.new.room ≡ length g.room.now =
     ap length room-is ∙ length_room g.c (strip g.p g.a.now g.q g.b.now) g.j (g.c.rows + g.j) g.room.now in
     omega (arith, s.requires.taken.enough, same) in
-    let f = c in
-    let e = f in
-    let r = e in
-    let s = r in
+    let s = c in
     let g = s.args in record {
       by_index = (λ t.
-          row_finished deep g.c (strip g.p g.a.now g.q g.b.now) g.j t g.room.now g.costs.now _ room-is _ _ e.if-y.true f.finish.ensures.value
-          f.finish.ensures.costs_after);
-      upper_bound = rw f.finish.ensures.value (rise_most deep g.c s.requires.taken.carry r.hold_row.new.room room_long_lem 65535 (omega arith) (λ i. omega (arith, e.slice_known-3-1.given i)));
+          row_finished deep g.c (strip g.p g.a.now g.q g.b.now) g.j t g.room.now g.costs.now _ room-is _ _ c.if-y.true c.finish.ensures.value
+          c.finish.ensures.costs_after);
+      upper_bound = rw c.finish.ensures.value (rise_most deep g.c s.requires.taken.carry c.hold_row.new.room room_long_lem 65535 (omega arith) (λ i. omega (arith, c.slice_known-3-1.given i)));
     }
 
 pub returns : goal.returns
@@ -80,7 +77,6 @@ returns c =
     c.hold_row.ensures
     ∙ rows_shown g.c (strip g.p g.a.now g.q g.b.now) g.j (g.c.rows + g.j) g.room.now _ _ h.first h.second s.requires.j_lt_height
     (omega (arith, s.requires.j_lt_height, h.heights)) t.width (sym h.widths ∙ t.width) c.row.ensures c.row-2.ensures in
-    let r = c in
-    let s = r in
+    let s = c in
     let g = s.args in
     record { by_index = (λ t. row_kept deep g.c (strip g.p g.a.now g.q g.b.now) g.j t g.room.now g.costs.now _ room-is c.if-y.false); upper_bound = omega arith }

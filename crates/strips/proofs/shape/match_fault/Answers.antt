@@ -13,24 +13,23 @@ returns-then-width-q c = sizes_refused _ _ _ _ _ (sizes_are _ _ _ ∙ c.if-width
 
 pub returns-then-none-ne0 : goal.returns-then-none-ne0
 returns-then-none-ne0 c =
+    -- past the test the sizes are equal
     let same : let s = c.args in sizes_differ s.p s.q || not (eqb s.p.width s.c.width) ≡ false = sizes_are _ _ _ ∙ c.if-width-q.false in
+    -- the blocks that were counted are the carry's
     let found : c.block_fault-none.result ≡ block_fault (blocks_in c.args.c) = c.block_fault-none.ensures ∙ ap block_fault c.blocks-blocks.ensures in
-    let f = c in blocks_refused _ _ _ _ _ same _ found c.if-none-ne0.true
+    blocks_refused _ _ _ _ _ same _ found c.if-none-ne0.true
 
 pub returns-then-costs-blocks : goal.returns-then-costs-blocks
 returns-then-costs-blocks c =
     let same : let s = c.args in sizes_differ s.p s.q || not (eqb s.p.width s.c.width) ≡ false = sizes_are _ _ _ ∙ c.if-width-q.false in
     let found : c.block_fault-none.result ≡ block_fault (blocks_in c.args.c) = c.block_fault-none.ensures ∙ ap block_fault c.blocks-blocks.ensures in
+    -- past that test there is one
     let some : 0 ≡ block_fault (blocks_in c.args.c) = sym c.if-none-ne0.false ∙ found in
-    let d = c in
-    let b = d in
-    room_refused _ _ _ _ _ same some (rw (← b.blocks-blocks.ensures) c.if-costs-blocks.true)
+    room_refused _ _ _ _ _ same some (rw (← c.blocks-blocks.ensures) c.if-costs-blocks.true)
 
 pub returns : goal.returns
 returns c =
     let same : let s = c.args in sizes_differ s.p s.q || not (eqb s.p.width s.c.width) ≡ false = sizes_are _ _ _ ∙ c.if-width-q.false in
     let found : c.block_fault-none.result ≡ block_fault (blocks_in c.args.c) = c.block_fault-none.ensures ∙ ap block_fault c.blocks-blocks.ensures in
     let some : 0 ≡ block_fault (blocks_in c.args.c) = sym c.if-none-ne0.false ∙ found in
-    let d = c in
-    let b = d in
-    matched _ _ _ _ _ same some (rw (← b.blocks-blocks.ensures) c.if-costs-blocks.false)
+    matched _ _ _ _ _ same some (rw (← c.blocks-blocks.ensures) c.if-costs-blocks.false)

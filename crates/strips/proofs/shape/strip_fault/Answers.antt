@@ -8,10 +8,8 @@ returns-then-p-ne0 c = let s = c.args in c.fault.ensures ∙ some_rows s.p s.n c
 
 pub returns-then-bad_side-p : goal.returns-then-bad_side-p
 returns-then-bad_side-p c =
-    let b = c in
-    no_rows_bad _ _ b.if-p-ne0.false (rw (← b.bad_side.ensures) c.if-bad_side-p.true)
+    no_rows_bad _ _ c.if-p-ne0.false (rw (← c.bad_side.ensures) c.if-bad_side-p.true)
 
 pub returns-else-bad_side-p : goal.returns-else-bad_side-p
 returns-else-bad_side-p c =
-    let b = c in
-    no_rows_good _ _ b.if-p-ne0.false (rw (← b.bad_side.ensures) c.if-bad_side-p.false)
+    no_rows_good _ _ c.if-p-ne0.false (rw (← c.bad_side.ensures) c.if-bad_side-p.false)
