@@ -108,7 +108,7 @@ with_back n at s b h =
 -- ---- floats
 
 -- "NaNs are written as 7FF8000000000000 (hex)"
-pub nan_pattern : to_bits binary64 nan ≡ 0x7_fF8_0000_0000_0000
+pub nan_pattern : to_bits binary64 nan ≡ 0x7FF8_0000_0000_0000
 unfolding to_bits
 nan_pattern = refl
 

@@ -67,7 +67,7 @@ abbrev pub RoundTrip : Type 0
 RoundTrip = (log : List ℕ) (r : Record) → Typed r → reading_of (appended log r) ≡ and_record (reading_of log) r
 
 abbrev pub OnePattern : Type 0
-OnePattern = (x : Float) → is_nan x ≡ true → to_bits binary64 x ≡ 0x7_fF8_0000_0000_0000
+OnePattern = (x : Float) → is_nan x ≡ true → to_bits binary64 x ≡ 0x7FF8_0000_0000_0000
 
 -- 3. Appending keeps it a log.
 abbrev pub StaysALog : Type 0
