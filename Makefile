@@ -26,8 +26,8 @@ CHECK = $(BUILD)/tests/check
 FILM = $(BUILD)/tests/film
 WATCHED = $(BUILD)/tests/watched
 
-# What the archive comes from: must-fail edits are no part of it.
-CRATES = $(shell find crates crates.txt -name must-fail -prune -o -type f -print)
+# What the archive comes from: must-fail edits are no part of it, nor what rt keeps.
+CRATES = $(shell find crates crates.txt \( -name must-fail -o -name out \) -prune -o -type f -print)
 TOOL_OBJECTS = $(patsubst %.c,$(BUILD)/%.o,$(wildcard tool/*.c))
 # Programs of their own, or parts of one, beside the tests of the library.
 OTHER_TESTS = tests/film.c tests/stack.c tests/watch.c $(wildcard tests/fuzz*.c)
@@ -43,7 +43,7 @@ help:
 	@echo 'make uninstall         remove what install put there'
 	@echo 'make check-c           test the library through its C header, and the command'
 	@echo 'make fuzz              damaged films, pictures, costs and logs, with sanitizers; FUZZ_SECONDS=60 for each reader'
-	@echo 'make test              the gate: prove everything from nothing, try the must-fail edits, run the programs'
+	@echo 'make test              the gate: prove every crate, try the must-fail edits, run the programs'
 	@echo 'make beside            run beside the Rust crate and compare'
 	@echo 'make bench             measure the speed; BEFORE=libbrinepulley.a: beside an older archive too'
 	@echo 'make clean             remove build/'
@@ -66,8 +66,8 @@ $(HEADER): include/brinepulley.h
 
 # Who vouches for the archive, in one sentence.
 VOUCHED_x86_64 = compiled for x86-64 by the toolchain that proved it, which vouches for it
-VOUCHED_aarch64 = the same proved module, compiled for Arm by the LLVM of the toolchain that proved it: the toolchain vouches \
-    for x86-64 alone, and the tests and the comparison with the crate are run on this archive
+VOUCHED_aarch64 = proved for Arm and compiled for it by the same toolchain, whose gate vouches for x86-64 alone: the tests and \
+    the comparison with the crate are run on this archive
 
 # The file finds its prefix from its own place, so it is right both under build/ and where it is installed.
 $(PKGCONFIG): Makefile $(BUILD)/target

@@ -22,7 +22,7 @@ missing() {
     case $target/$machine in
     "$machine/$target") compiles || echo gcc libc6-dev ;;
     aarch64/*) compiles || echo gcc-aarch64-linux-gnu libc6-dev-arm64-cross; emulates || echo qemu-user ;;
-    x86_64/*) compiles || echo gcc-x86-64-linux-gnu libc6-dev-amd64-cross ;;
+    x86_64/*) compiles || echo gcc-x86-64-linux-gnu libc6-dev-amd64-cross; emulates || echo qemu-user ;;
     esac
 }
 

@@ -1,12 +1,10 @@
 # The machine that make runs on, and the one that it builds for: TARGET, which is the same unless it is given.
-# Where they are the same nothing emulates. Elsewhere Debian's cross compiler and an emulator do: for x86_64 the one that the
-# toolchain has, for aarch64 Debian's. Programs are then linked statically, so that the emulator needs no libraries.
+# Where they are the same nothing emulates. Elsewhere Debian's cross compiler and Debian's emulator do. Programs are then linked
+# statically, so that the emulator needs no libraries.
 RT ?= rt
 MACHINE := $(shell uname -m)
 TARGET ?= $(MACHINE)
-# The toolchain's folder, from where `rt` is.
-KIT = $(or $(RATTLE_HOME),$(shell dirname "$$(readlink -f "$$(command -v $(RT))")")/..)
-EMULATOR_x86_64 = $(KIT)/on/$(MACHINE)/toolchain/bin/qemu-x86_64
+EMULATOR_x86_64 = qemu-x86_64
 EMULATOR_aarch64 = qemu-aarch64
 
 ifeq ($(filter help clean,$(MAKECMDGOALS))$(filter $(TARGET),x86_64 aarch64),)

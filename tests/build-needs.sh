@@ -30,8 +30,8 @@ verdict "the machine's own compiler is named and not installed" $?
 needs no aarch64 x86_64 no-such-cc no-such-qemu
 refused "by hand: sudo apt-get install --no-install-recommends $arm\$" && grep -q 'INSTALL=no: nothing was installed' "$room/err"
 verdict "INSTALL=no stops, for Arm" $?
-needs no x86_64 aarch64 no-such-cc
-refused "by hand: sudo apt-get install --no-install-recommends $intel\$"
+needs no x86_64 aarch64 no-such-cc no-such-qemu
+refused "by hand: sudo apt-get install --no-install-recommends $intel qemu-user\$"
 verdict "INSTALL=no stops, for x86-64" $?
 
 # It says what it will do, then does it, and looks whether it helped.
