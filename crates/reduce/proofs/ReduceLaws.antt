@@ -55,6 +55,10 @@ factor_small =
     six (λ (f : ℕ). (0 < f) × (f ≤ 32)) (omega arith, omega arith) (omega arith, omega arith) (omega arith, omega arith) (omega arith, omega arith)
     (omega arith, omega arith) (omega arith, omega arith)
 
+-- so one below 2 is 1
+pub factor_one : (f : ℕ) → bad_factor f ≡ false → f < 2 → f ≡ 1
+factor_one f h few = omega (arith, (factor_small f h).0, few)
+
 -- so a square has 1,024 samples at most
 pub samples_few : (f : ℕ) → f ≤ 32 → f * f ≤ 1024
 samples_few f h = mul-le-mul h h

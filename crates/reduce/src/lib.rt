@@ -194,7 +194,8 @@ fn reduce_row(out: &mut [u8], s: &[u8], start: usize, stride: usize, factor: usi
     requires rows_in { RowsIn start stride factor (count * factor) (length s.now) }
     ensures { out.new ≡ written (λ (k : ℕ). ltb k count) (mean_from factor s.now start stride) out.old }
 {
-    if factor == 1 {
+    // Below 2, and not just 1: so the compiler sees that no square without a side comes, for which it would call memset.
+    if factor < 2 {
         copy_row(out, &s[start..], count);
         return;
     }
