@@ -1,4 +1,5 @@
 -- `accepted` meets its contract: each rule's function gives its rule, and what they ask follows from no refusal being given.
+-- Assumes nothing.
 use mathlib.Core.Path.{◌≡◌, sym, ◌∙◌, ap}
 use mathlib.Core.Bool.{Bool, true, false, not}
 use mathlib.Core.List.{List}
@@ -23,8 +24,6 @@ use Rattle.detector.proofs.Cases.{stays, silent, goes_on}
 use Rattle.detector.proofs.Begins.{empty, begun}
 use native.Mathlib.Omega.{arith}
 use Rattle.detector.proofs.accepted.Goals as goal
-
--- Assumes nothing.
 
 -- an outcome with a score, by its parts
 scored-is : (s : View) (c : Call) (t : Turn) (cut : Bool) (score : ScenecutResult) (kept : List ScenecutResult) (state : View)

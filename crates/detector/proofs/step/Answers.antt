@@ -1,12 +1,11 @@
 -- `step` meets its contract: the refusal is asked for first, and its branch returns the state that it was given; without one the rules
+-- are those of an accepted call, which is no refusal.
+-- Assumes nothing.
 use mathlib.Core.Path.{refl, sym, ◌∙◌, ap}
 use mathlib.Core.Bool.{true≢false}
 use Rattle.detector.specs.Step.{Outcome, is_refused}
 use Rattle.detector.proofs.Cases.{accepted_leaves, step_accepted, step_refused}
 use Rattle.detector.proofs.step.Goals as goal
-
--- are those of an accepted call, which is no refusal.
--- Assumes nothing.
 
 pub returns-then-fault-ne0 : goal.returns-then-fault-ne0
 returns-then-fault-ne0 c =

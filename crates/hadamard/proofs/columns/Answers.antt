@@ -1,4 +1,5 @@
 -- `hadamard::columns` meets its contract. The loop's invariant: the columns passed are transformed; those to come are as they were, since no
+-- two share a place. Assumes nothing.
 use mathlib.Core.Path.{◌≡◌, ap, subst, ◌∙◌}
 use Prim.Native.Nat.{ℕ, ◌*◌}
 use native.Mathlib.Omega.{arith}
@@ -9,8 +10,6 @@ use Rattle.hadamard.specs.Steps.{lined, all_lined, LineIn}
 use Rattle.hadamard.proofs.Parts.{part_line, part_lined}
 use Rattle.hadamard.proofs.Places.{none_lined, more_lined, length_lined, next_line}
 use Rattle.hadamard.proofs.columns.Goals as goal
-
--- two share a place. Assumes nothing.
 
 pub loop-i-init : goal.loop-i-init
 loop-i-init c = (search rules, none_lined (output 16) 16 1 4 c.args.block.now)

@@ -1,4 +1,5 @@
 -- `hadamard::columns` meets its contract. The loop's invariant: the columns passed are transformed; those to come are as they were, since no
+-- two share a place. Assumes nothing.
 use mathlib.Core.Path.{◌≡◌}
 use Prim.Native.Nat.{◌-◌, ◌≤◌}
 use Rattle.hadamard.specs.Steps.{all_lined}

@@ -1,4 +1,5 @@
 -- `hadamard::count_beyond` meets its contract. The loop's invariant: those passed are counted, at most one for each entry passed, and the
+-- rest of the list has the others. Assumes nothing.
 use mathlib.Core.Path.{◌≡◌, sym, ap, ◌∙◌}
 use Prim.Native.Nat.{ℕ, ◌+◌}
 use native.Mathlib.Omega.{arith}
@@ -11,8 +12,6 @@ use Rattle.hadamard.specs.Steps.{count_beyond}
 use Rattle.hadamard.proofs.SignedLaws.{read_at}
 use Rattle.hadamard.proofs.Range.{none_passed, one_passed, all_passed, one_at_most}
 use Rattle.hadamard.proofs.count_beyond.Goals as goal
-
--- rest of the list has the others. Assumes nothing.
 
 pub loop-i-init : goal.loop-i-init
 loop-i-init c = (search rules, search rules, search rules, none_passed _)

@@ -1,4 +1,5 @@
 -- `hadamard::count_beyond` meets its contract. The loop's invariant: those passed are counted, at most one for each entry passed, and the
+-- rest of the list has the others. Assumes nothing.
 use mathlib.Core.Path.{◌≡◌}
 use Prim.Native.Nat.{◌+◌, ◌-◌, ◌≤◌}
 use lib.ListN.{length, drop}

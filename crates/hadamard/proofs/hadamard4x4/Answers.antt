@@ -14,6 +14,7 @@ returns-then-refused-ne0 c =
 
 pub line16-requires : goal.line16-requires
 line16-requires c =
+    -- past the test the list is not refused
     let free : transform_fault 4 c.args.block.now ≡ 0 = sym c.fault-refused.ensures ∙ c.if-refused-ne0.false in
     let l = c.args.block.now in
     let f = unrefused 4 l free in

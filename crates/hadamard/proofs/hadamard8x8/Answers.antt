@@ -1,4 +1,5 @@
 -- `hadamard::hadamard8x8` meets its contract: a refused list is as it was, and any other is a line of 64, which is four columns of 16 and then
+-- 16 rows. Assumes nothing.
 use mathlib.Core.Path.{◌≡◌, sym, ap, ◌∙◌}
 use native.Mathlib.Omega.{arith}
 use Rattle.answer.proofs.Laws.{lent_written, lent_kept}
@@ -10,8 +11,6 @@ use Rattle.hadamard.proofs.Range.{unrefused}
 use Rattle.hadamard.proofs.Square.{square_line, line_square}
 use Rattle.hadamard.proofs.hadamard8x8.Goals as goal
 
--- 16 rows. Assumes nothing.
-
 pub returns-then-refused-ne0 : goal.returns-then-refused-ne0
 returns-then-refused-ne0 c =
     let l = c.args.block.now in
@@ -19,6 +18,7 @@ returns-then-refused-ne0 c =
 
 pub columns-requires : goal.columns-requires
 columns-requires c =
+    -- past the test the list is not refused
     let free : transform_fault 8 c.args.block.now ≡ 0 = sym c.fault-refused.ensures ∙ c.if-refused-ne0.false in
     let line : LineIn 64 0 1 entry_most c.args.block.now = let l = c.args.block.now in
     let f = unrefused 8 l free in

@@ -1,4 +1,5 @@
 -- `hadamard::lines` meets its contract. The loop's invariant: the lines passed are transformed; those to come are as they were, since no
+-- two lines share a place. Assumes nothing.
 use mathlib.Core.Path.{ap, ◌∙◌}
 use Prim.Native.Nat.{ℕ, ◌*◌}
 use native.Mathlib.Omega.{arith}
@@ -8,8 +9,6 @@ use Rattle.hadamard.specs.Transform.{output}
 use Rattle.hadamard.specs.Steps.{lined, all_lined, line_most}
 use Rattle.hadamard.proofs.Places.{none_lined, more_lined, length_lined, next_line}
 use Rattle.hadamard.proofs.lines.Goals as goal
-
--- two lines share a place. Assumes nothing.
 
 pub loop-i-init : goal.loop-i-init
 loop-i-init c = let s = c.args in (search rules, none_lined (output 4) 4 s.first s.step s.block.now)

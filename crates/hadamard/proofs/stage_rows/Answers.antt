@@ -1,4 +1,5 @@
 -- `hadamard::stage_rows` meets its contract. The loop's invariant: the rows passed have had their stage; those to come are as they were, since no
+-- two share a place. Assumes nothing.
 use mathlib.Core.Path.{ap, ◌∙◌}
 use Prim.Native.Nat.{ℕ, ◌*◌}
 use native.Mathlib.Omega.{arith}
@@ -7,8 +8,6 @@ use lib.ListN.{length}
 use Rattle.hadamard.specs.Steps.{stage_of, lined_by, all_lined_by, stage_most}
 use Rattle.hadamard.proofs.Places.{none_lined, more_lined, length_lined, next_line}
 use Rattle.hadamard.proofs.stage_rows.Goals as goal
-
--- two share a place. Assumes nothing.
 
 pub loop-i-init : goal.loop-i-init
 loop-i-init c = (search rules, none_lined stage_of 4 4 1 c.args.block.now)

@@ -1,4 +1,5 @@
 -- `hadamard::stage_rows` meets its contract. The loop's invariant: the rows passed have had their stage; those to come are as they were, since no
+-- two share a place. Assumes nothing.
 use mathlib.Core.Path.{◌≡◌}
 use Prim.Native.Nat.{◌-◌, ◌≤◌}
 use Rattle.hadamard.specs.Steps.{stage_of, all_lined_by}

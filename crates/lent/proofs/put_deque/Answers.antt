@@ -1,4 +1,5 @@
 -- `lent::put_deque` meets its contract. After i turns the first i entries are placed; each is put through the part that starts at its
+-- place. Assumes nothing.
 use mathlib.Core.List.{◌++◌}
 use mathlib.Core.Path.{◌≡◌, sym, ◌∙◌}
 use Prim.Native.Nat.{◌+◌, ◌*◌, ◌-◌, ◌<◌}
@@ -13,8 +14,6 @@ use Rattle.score.proofs.Room.{roomy}
 use Rattle.lent.specs.Places.{score_long, doubles, placed}
 use Rattle.lent.proofs.Scores.{put_last, take_content, place_more, placed_none}
 use Rattle.lent.proofs.put_deque.Goals as goal
-
--- place. Assumes nothing.
 
 pub loop-i-init : goal.loop-i-init
 loop-i-init c = (omega arith, (c.requires, placed_none c.args.scores.now))

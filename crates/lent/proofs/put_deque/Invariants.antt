@@ -1,4 +1,5 @@
 -- `lent::put_deque` meets its contract. After i turns the first i entries are placed; each is put through the part that starts at its
+-- place. Assumes nothing.
 use mathlib.Core.Path.{◌≡◌}
 use Prim.Native.Nat.{◌-◌, ◌≤◌}
 use lib.ListN.{length, take}

@@ -25,13 +25,19 @@ pub overflow_mul-x : goal.overflow_mul-x
 overflow_mul-x c = omega (arith, small c.loop-i.x _ c.loop-i.invariant.1.1 (omega arith))
 
 pub overflow_cast-x : goal.overflow_cast-x
-overflow_cast-x c = omega (arith, (let it : get_or c.args.s.now (c.args.at + (c.loop-i.i - 1)) 0 < 256 = omega (arith, c.shared_slice_known-1.given (c.args.at + (c.loop-i.i - 1))) in it))
+overflow_cast-x c =
+    -- the byte that was read
+    let byte : get_or c.args.s.now (c.args.at + (c.loop-i.i - 1)) 0 < 256 = omega (arith, c.shared_slice_known-1.given (c.args.at + (c.loop-i.i - 1))) in
+    omega (arith, byte)
 
 pub overflow_add-x-in-loop-i : goal.overflow_add-x-in-loop-i
-overflow_add-x-in-loop-i c = omega (arith, (let it : get_or c.args.s.now (c.args.at + (c.loop-i.i - 1)) 0 < 256 = omega (arith, c.shared_slice_known-1.given (c.args.at + (c.loop-i.i - 1))) in it), small c.loop-i.x _ c.loop-i.invariant.1.1 (omega arith))
+overflow_add-x-in-loop-i c =
+    let byte : get_or c.args.s.now (c.args.at + (c.loop-i.i - 1)) 0 < 256 = omega (arith, c.shared_slice_known-1.given (c.args.at + (c.loop-i.i - 1))) in
+    omega (arith, byte, small c.loop-i.x _ c.loop-i.invariant.1.1 (omega arith))
 
 pub loop-i-preserved : goal.loop-i-preserved
 loop-i-preserved c =
+    let byte : get_or c.args.s.now (c.args.at + (c.loop-i.i - 1)) 0 < 256 = omega (arith, c.shared_slice_known-1.given (c.args.at + (c.loop-i.i - 1))) in
     let s = c.args.s.now in
     let at = c.args.at in
     let n = c.args.n in
@@ -42,7 +48,7 @@ loop-i-preserved c =
       omega arith,
       rw more (
         number-of (get_or s (at + (i - 1)) 0) c.loop-i.x _ (c.loop-i.invariant.1.0 ∙ ap (λ (k : ℕ). number_of (take (n - i) (drop k s))) (sym next)) ∙ sym (number_more s (at + (i - 1)) (n - i) (omega arith)),
-        omega (arith, (let it : get_or c.args.s.now (c.args.at + (c.loop-i.i - 1)) 0 < 256 = omega (arith, c.shared_slice_known-1.given (c.args.at + (c.loop-i.i - 1))) in it), power, c.loop-i.invariant.1.1),
+        omega (arith, byte, power, c.loop-i.invariant.1.1),
       ),
     )
 

@@ -1,4 +1,5 @@
 -- `octets::put_number` meets its contract: after i turns the i low bytes stand there, and what is left is the number without them. Assumes
+-- nothing.
 use mathlib.Core.Path.{◌≡◌, refl, sym, ap, ap₂, ◌∙◌}
 use mathlib.Core.List.{List}
 use Prim.Native.Nat.{ℕ, suc, ◌+◌, ◌/◌, ◌%◌}
@@ -10,8 +11,6 @@ use Rattle.octets.proofs.Laws.{bytes_long}
 use Rattle.octets.proofs.Over.{over_none, over_set}
 use Rattle.octets.proofs.Steps.{higher, higher_none, higher_next, bytes_none, bytes_more}
 use Rattle.octets.proofs.put_number.Goals as goal
-
--- nothing.
 
 pub loop-i-init : goal.loop-i-init
 loop-i-init c = (omega arith, (refl, (sym (ap (λ (l : List ℕ). overwritten c.args.at l c.args.s.now) (bytes_none c.args.x) ∙ over_none c.args.at c.args.s.now), higher_none c.args.x)))

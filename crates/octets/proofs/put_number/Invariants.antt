@@ -1,4 +1,5 @@
 -- `octets::put_number` meets its contract: after i turns the i low bytes stand there, and what is left is the number without them. Assumes
+-- nothing.
 use mathlib.Core.Path.{◌≡◌}
 use Prim.Native.Nat.{◌-◌, ◌≤◌}
 use lib.ListN.{length}

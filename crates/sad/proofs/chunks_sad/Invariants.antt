@@ -1,4 +1,5 @@
 -- `sad::chunks_sad` meets its contract. After c turns the sum is that of the first c chunks, which by the bounds on a sample and on a row fits.
+-- Assumes nothing.
 use mathlib.Core.Path.{◌≡◌}
 use Prim.Native.Nat.{◌*◌, ◌≤◌, ◌-◌}
 use Rattle.sad.specs.Needs.{gaps_from}

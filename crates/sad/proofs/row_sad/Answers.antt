@@ -1,4 +1,5 @@
 -- `sad::row_sad` meets its contract: a row is its chunks, the small chunks of what is left, and the rest, each cut off where the one before it ends.
+-- Assumes nothing.
 use mathlib.Core.Path.{◌≡◌, ◌∙◌}
 use Prim.Native.Nat.{ℕ, ◌+◌, ◌*◌, ◌^◌, ◌≤◌, ◌<◌, ◌-◌, ◌/◌}
 use native.Mathlib.Omega.{arith}
@@ -9,8 +10,6 @@ use Rattle.sums.proofs.SumLaws.{sum_to}
 use Rattle.sad.specs.Needs.{gap_at}
 use Rattle.sad.proofs.SadLaws.{row_fits, row_from, row_more}
 use Rattle.sad.proofs.row_sad.Goals as goal
-
--- Assumes nothing.
 
 pub overflow_add-sum : goal.overflow_add-sum
 overflow_add-sum c =

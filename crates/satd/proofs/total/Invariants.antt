@@ -1,4 +1,5 @@
 -- `satd::total` meets its contract. The loop's invariant: the absolute values passed are added, and each is small enough that the sum fits.
+-- Assumes nothing.
 use mathlib.Core.Path.{◌≡◌}
 use Prim.Native.Nat.{ℕ, ◌-◌, ◌≤◌}
 use lib.IntN.{pos, nat_abs}

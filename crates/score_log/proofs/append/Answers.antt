@@ -1,4 +1,4 @@
--- `log::append` meets its contract: the refusals in their order, or the record behind the last whole one. Assumes nothing.
+-- `score_log::append` meets its contract: the refusals in their order, or the record behind the last whole one. Assumes nothing.
 use mathlib.Core.Path.{◌≡◌, sym, ap, ◌∙◌}
 use mathlib.Core.List.{List}
 use Prim.Native.Nat.{ℕ, ◌+◌, ◌*◌, ◌/◌, ◌≤◌, ◌<◌}

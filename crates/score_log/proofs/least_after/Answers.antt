@@ -1,4 +1,4 @@
--- `log::least_after` meets its contract: behind a record, one more than its number. Assumes nothing.
+-- `score_log::least_after` meets its contract: behind a record, one more than its number. Assumes nothing.
 use mathlib.Core.Path.{◌∙◌, ap}
 use Prim.Native.Nat.{suc, ◌+◌, ◌*◌, ◌-◌}
 use native.Mathlib.Numerals.{add-one}

@@ -1,4 +1,4 @@
--- `log::log_fault` meets its contract: no record before this one is at fault. Assumes nothing.
+-- `score_log::log_fault` meets its contract: no record before this one is at fault. Assumes nothing.
 use mathlib.Core.Path.{◌≡◌, sym, ap, ◌∙◌}
 use Prim.Native.Nat.{ℕ}
 use native.Mathlib.Numerals.{add-one}

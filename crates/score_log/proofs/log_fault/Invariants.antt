@@ -1,4 +1,4 @@
--- `log::log_fault` meets its contract: no record before this one is at fault. Assumes nothing.
+-- `score_log::log_fault` meets its contract: no record before this one is at fault. Assumes nothing.
 use mathlib.Core.Path.{◌≡◌}
 use Prim.Native.Nat.{◌-◌, ◌≤◌}
 use Rattle.score_log.specs.Log.{record_fault, earliest}

@@ -1,4 +1,4 @@
--- `log::new_fault` meets its contract: the records that are there first, then the new one's cut and its number. Assumes nothing.
+-- `score_log::new_fault` meets its contract: the records that are there first, then the new one's cut and its number. Assumes nothing.
 use mathlib.Core.Path.{sym, ◌∙◌}
 use Rattle.answer.proofs.Laws.{or_given, or_later}
 use Rattle.score_log.specs.Log.{whole_records, least_after, new_fault}

@@ -1,4 +1,4 @@
--- `log::put_patterns` meets its contract: each float's pattern is written behind the one before it. Assumes nothing.
+-- `score_log::put_patterns` meets its contract: each float's pattern is written behind the one before it. Assumes nothing.
 use mathlib.Core.Path.{◌≡◌, ap, ◌∙◌}
 use mathlib.Core.List.{List, ◌++◌, append_assoc, append-nil}
 use Prim.Native.Nat.{ℕ, ◌+◌}

@@ -1,4 +1,4 @@
--- `log::put_record` meets its contract: mark, number, patterns and cut, each behind the one before it. Assumes nothing.
+-- `score_log::put_record` meets its contract: mark, number, patterns and cut, each behind the one before it. Assumes nothing.
 use mathlib.Core.Path.{◌≡◌, refl, ap, ◌∙◌}
 use mathlib.Core.List.{List, [], ◌∷◌, ◌++◌, append_assoc}
 use Prim.Native.Nat.{ℕ, ◌+◌}

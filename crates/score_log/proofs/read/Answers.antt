@@ -1,4 +1,4 @@
--- `log::read` meets its contract: refused as `scan` is, or for want of room; else the lists hold every record. Assumes nothing.
+-- `score_log::read` meets its contract: refused as `scan` is, or for want of room; else the lists hold every record. Assumes nothing.
 use mathlib.Core.Path.{◌≡◌, refl, sym, ◌∙◌}
 use mathlib.Core.Bool.{false, ◌||◌}
 use mathlib.Core.List.{List}

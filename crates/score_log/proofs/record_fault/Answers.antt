@@ -1,4 +1,4 @@
--- `log::record_fault` meets its contract: the mark, the cut and the number are those of record k. Assumes nothing.
+-- `score_log::record_fault` meets its contract: the mark, the cut and the number are those of record k. Assumes nothing.
 use mathlib.Core.Path.{◌≡◌, sym, ◌∙◌}
 use mathlib.Core.List.{List}
 use Prim.Native.Nat.{ℕ, ◌+◌, ◌*◌, ◌≤◌, ◌<◌}
@@ -34,6 +34,7 @@ returns-then-log-at-gt1 c =
 
 pub returns-then-number-least_after : goal.returns-then-number-least_after
 returns-then-number-least_after c =
+    -- what the three tests before the last have shown, and that the number read is the record's
     let log : List ℕ = c.args.log.now in
     let place : ℕ = c.args.k in
     let first : get_or (record_in log place) 0 0 ≡ 0x53 = byte_first log place ∙ c.if-log-at-ne-MARK.false in

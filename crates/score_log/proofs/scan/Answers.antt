@@ -1,4 +1,4 @@
--- `log::scan` meets its contract: the refusal of the earliest record at fault, or the quotient and the rest. Assumes nothing.
+-- `score_log::scan` meets its contract: the refusal of the earliest record at fault, or the quotient and the rest. Assumes nothing.
 use mathlib.Core.Path.{refl, sym, ◌∙◌}
 use Rattle.answer.proofs.Laws.{answer_given, answer_refused, lent_written, lent_kept}
 use Rattle.score_log.proofs.scan.Goals as goal

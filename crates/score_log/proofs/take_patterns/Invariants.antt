@@ -1,4 +1,4 @@
--- `log::take_patterns` meets its contract: after j turns the first j patterns stand in the list. Assumes nothing.
+-- `score_log::take_patterns` meets its contract: after j turns the first j patterns stand in the list. Assumes nothing.
 use mathlib.Core.Path.{◌≡◌}
 use Prim.Native.Nat.{◌-◌, ◌≤◌}
 use lib.ListN.{length}

@@ -1,4 +1,4 @@
--- `log::take_records` meets its contract: after k turns the lists hold the first k records. Assumes nothing.
+-- `score_log::take_records` meets its contract: after k turns the lists hold the first k records. Assumes nothing.
 use mathlib.Core.Path.{◌≡◌, refl, sym, ap, ◌∙◌}
 use mathlib.Core.List.{List, [], ◌∷◌}
 use Prim.Native.Nat.{ℕ, ◌+◌, ◌*◌}

@@ -1,4 +1,4 @@
--- `log::take_records` meets its contract: after k turns the lists hold the first k records. Assumes nothing.
+-- `score_log::take_records` meets its contract: after k turns the lists hold the first k records. Assumes nothing.
 use Prim.Native.Nat.{◌-◌, ◌≤◌}
 use Rattle.score_log.specs.Log.{joined, number_one, patterns_one, cut_one}
 use Rattle.score_log.proofs.Filled.{Filled}

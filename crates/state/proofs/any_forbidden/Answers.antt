@@ -1,4 +1,5 @@
 -- `any_forbidden` meets its contract: the search of the list is the search from i on, as long as nothing before i was found.
+-- Assumes nothing.
 use mathlib.Core.Path.{◌≡◌, refl, sym, ◌∙◌}
 use mathlib.Core.Bool.{true, false}
 use lib.ListN.{get_or}
@@ -7,8 +8,6 @@ use Rattle.score.specs.Costs.{forbidden}
 use Rattle.score.proofs.Counts.{any_end, any_more}
 use native.Mathlib.Omega.{arith}
 use Rattle.state.proofs.any_forbidden.Goals as goal
-
--- Assumes nothing.
 
 pub loop-i-init : goal.loop-i-init
 loop-i-init c = (omega arith, (refl, refl))

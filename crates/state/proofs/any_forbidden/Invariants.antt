@@ -1,4 +1,5 @@
 -- `any_forbidden` meets its contract: the search of the list is the search from i on, as long as nothing before i was found.
+-- Assumes nothing.
 use mathlib.Core.Path.{◌≡◌}
 use Prim.Native.Nat.{◌≤◌, ◌-◌}
 use lib.ListN.{length, drop}

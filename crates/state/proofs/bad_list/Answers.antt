@@ -1,9 +1,8 @@
 -- `bad_list` meets its contract: the length is compared first, as in the definition.
+-- Assumes nothing.
 use mathlib.Core.Path.{◌∙◌, refl}
 use borrow.Author.Tests.{eq-eqb, ne_eqb}
 use Rattle.state.proofs.bad_list.Goals as goal
-
--- Assumes nothing.
 
 pub returns-then-list-items : goal.returns-then-list-items
 returns-then-list-items c = rw (ne_eqb _ _ c.if-list-items.true)

@@ -1,8 +1,7 @@
 -- `length_fault` meets its contract: its test is the definition's.
+-- Assumes nothing.
 use Rattle.state.specs.Refusals.{length_fault}
 use Rattle.state.proofs.length_fault.Goals as goal
-
--- Assumes nothing.
 
 pub returns-then-length-last : goal.returns-then-length-last
 unfolding length_fault

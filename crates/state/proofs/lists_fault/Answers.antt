@@ -1,10 +1,9 @@
 -- `lists_fault` meets its contract: each mode looks at the lists that it reads, in the definition's order.
+-- Assumes nothing.
 use mathlib.Core.Path.{sym, ◌∙◌}
 use borrow.Author.Tests.{ne_eqb}
 use Rattle.state.specs.Refusals.{lists_fault}
 use Rattle.state.proofs.lists_fault.Goals as goal
-
--- Assumes nothing.
 
 pub returns-then-mode-eq-NONE : goal.returns-then-mode-eq-NONE
 unfolding lists_fault

@@ -1,9 +1,8 @@
 -- `number_fault` meets its contract: n - 1 is taken only where n is not 0, and the tests are the definition's.
+-- Assumes nothing.
 use borrow.Author.Tests.{ne_eqb}
 use Rattle.state.specs.Refusals.{number_fault}
 use Rattle.state.proofs.number_fault.Goals as goal
-
--- Assumes nothing.
 
 pub returns-then-n-eq0 : goal.returns-then-n-eq0
 unfolding number_fault

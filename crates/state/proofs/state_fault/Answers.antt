@@ -1,4 +1,5 @@
 -- `state_fault` meets its contract: a count above the room is refused before a slot is read, as the number of entries is.
+-- Assumes nothing.
 use mathlib.Core.Path.{◌≡◌, sym, ◌∙◌}
 use mathlib.Core.Bool.{false}
 use lib.ListN.{length}
@@ -8,8 +9,6 @@ use Rattle.score.proofs.Room.{long_min}
 use Rattle.state.specs.Refusals.{unfit, cost_forbidden, state_fault}
 use Rattle.state.proofs.Room.{state_room, unfit_min}
 use Rattle.state.proofs.state_fault.Goals as goal
-
--- Assumes nothing.
 
 pub returns-then-is_unfit : goal.returns-then-is_unfit
 unfolding state_fault

@@ -1,12 +1,11 @@
 -- `step_fault` meets its contract: each refusal is given where those before it are not.
+-- Assumes nothing.
 use mathlib.Core.Path.{◌≡◌, sym, ◌∙◌, ap}
 use Prim.Native.Nat.{ℕ}
 use Rattle.answer.proofs.Laws.{or_given, or_later}
 use Rattle.state.specs.State.{view}
 use Rattle.state.specs.Refusals.{state_fault, number_fault, length_fault, stop_fault, lists_fault, step_fault}
 use Rattle.state.proofs.step_fault.Goals as goal
-
--- Assumes nothing.
 
 pub returns-then-state-ne0 : goal.returns-then-state-ne0
 unfolding step_fault

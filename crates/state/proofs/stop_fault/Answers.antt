@@ -1,8 +1,7 @@
 -- `stop_fault` meets its contract: its test is the definition's, over the offset that the settings give.
+-- Assumes nothing.
 use Rattle.state.specs.Refusals.{stop_fault}
 use Rattle.state.proofs.stop_fault.Goals as goal
-
--- Assumes nothing.
 
 pub returns-then-length-a : goal.returns-then-length-a
 unfolding stop_fault

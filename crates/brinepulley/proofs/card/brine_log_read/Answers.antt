@@ -1,4 +1,5 @@
 -- `brinepulley::card::brine_log_read` meets its contract: the number as in `brine_log_scan`, and each lent list as the read leaves it. Assumes
+-- nothing.
 use mathlib.Core.Path.{ap, ◌∙◌}
 use native.Mathlib.Omega.{arith}
 use borrow.Author.Rules.{sfits_of}
@@ -7,8 +8,6 @@ use mir.Facts.{to_z-of_z}
 use Rattle.brinepulley.specs.Coded.{coded}
 use Rattle.brinepulley.proofs.Numbers.{codable_answer}
 use Rattle.brinepulley.proofs.card.brine_log_read.Goals as goal
-
--- nothing.
 
 pub whole-requires : goal.whole-requires
 whole-requires c =

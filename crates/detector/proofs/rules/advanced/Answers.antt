@@ -1,4 +1,5 @@
 -- `advanced` meets its contract: item o is scored with the offset as it is, and there is room for it; else the offset falls.
+-- Assumes nothing.
 use mathlib.Core.Path.{◌≡◌, ◌∙◌}
 use mathlib.Core.Bool.{◌&&◌}
 use Prim.Native.Nat.{◌+◌, ◌<◌}
@@ -12,8 +13,6 @@ use Rattle.score.proofs.Room.{entries_of_lem}
 use Rattle.detector.specs.Rules.{measure_of, again_of}
 use native.Mathlib.Omega.{arith}
 use Rattle.detector.proofs.rules.advanced.Goals as goal
-
--- Assumes nothing.
 
 pub measure_at-first-requires : goal.measure_at-first-requires
 measure_at-first-requires c =

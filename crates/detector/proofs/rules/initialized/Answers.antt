@@ -1,4 +1,5 @@
 -- `initialized` meets its contract: its three returns are the definition's three cases.
+-- Assumes nothing.
 use mathlib.Core.Path.{◌≡◌, ap}
 use mathlib.Core.List.{List}
 use Prim.Native.Nat.{ℕ, ◌+◌, ◌-◌, ◌<◌}
@@ -13,8 +14,6 @@ use Rattle.state.proofs.Tests.{and_both}
 use Rattle.detector.specs.Rules.{measure_of, items_of}
 use native.Mathlib.Omega.{arith}
 use Rattle.detector.proofs.rules.initialized.Goals as goal
-
--- Assumes nothing.
 
 pub returns-then-count-ne0 : goal.returns-then-count-ne0
 returns-then-count-ne0 c =

@@ -1,4 +1,5 @@
 -- `items_scored` meets its contract: after i turns the deque holds the list with items 0 to i - 1 scored, which the room has place for.
+-- Assumes nothing.
 use mathlib.Core.Path.{◌≡◌, refl, sym, ◌∙◌, ap}
 use Prim.Native.Nat.{◌+◌, ◌<◌}
 use native.Mathlib.Numerals.{add-one}
@@ -11,8 +12,6 @@ use Rattle.detector.specs.Rules.{measure_of, items_of}
 use Rattle.detector.proofs.Items.{items_long}
 use native.Mathlib.Omega.{arith}
 use Rattle.detector.proofs.rules.items_scored.Goals as goal
-
--- Assumes nothing.
 
 pub loop-i-init : goal.loop-i-init
 loop-i-init c =

@@ -1,4 +1,5 @@
 -- `items_scored` meets its contract: after i turns the deque holds the list with items 0 to i - 1 scored, which the room has place for.
+-- Assumes nothing.
 use mathlib.Core.Path.{◌≡◌}
 use Prim.Native.Nat.{◌-◌, ◌≤◌}
 use Rattle.score.specs.Deque.{content, held, holding}

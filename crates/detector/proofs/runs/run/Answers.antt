@@ -1,4 +1,5 @@
 -- `run` meets its contract: the run from the start is the run from call j on, from where the calls before it ended.
+-- Assumes nothing.
 use mathlib.Core.Path.{◌≡◌, sym, ◌∙◌, ap}
 use Prim.Native.Nat.{◌+◌, ◌-◌}
 use lib.ListN.{take, drop, get_or}
@@ -8,8 +9,6 @@ use Rattle.detector.specs.Runs.{then_step, run_of}
 use Rattle.detector.proofs.Calls.{left, run_more, run_end, calls_start, calls_more, calls_end}
 use native.Mathlib.Omega.{arith}
 use Rattle.detector.proofs.runs.run.Goals as goal
-
--- Assumes nothing.
 
 pub loop-j-init : goal.loop-j-init
 loop-j-init c =

@@ -1,4 +1,5 @@
 -- `run` meets its contract: the run from the start is the run from call j on, from where the calls before it ended.
+-- Assumes nothing.
 use mathlib.Core.Path.{◌≡◌}
 use Prim.Native.Nat.{◌-◌, ◌≤◌}
 use Rattle.detector.specs.Step.{outcome}

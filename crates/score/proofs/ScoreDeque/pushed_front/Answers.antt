@@ -1,4 +1,6 @@
 -- `pushed_front` meets its contract: each turn puts the carried entry down and takes up the one that stood there, so that after i turns
+-- the first i slots are those of the list with s in front.
+-- Assumes nothing.
 use mathlib.Core.Path.{◌≡◌, sym, ◌∙◌, ap}
 use mathlib.Core.List.{List, ◌∷◌}
 use Prim.Native.Nat.{suc, ◌-◌}
@@ -12,9 +14,6 @@ use Rattle.score.proofs.Window.{take_min}
 use Rattle.score.proofs.Shift.{begin, more}
 use native.Mathlib.Omega.{arith}
 use Rattle.score.proofs.ScoreDeque.pushed_front.Goals as goal
-
--- the first i slots are those of the list with s in front.
--- Assumes nothing.
 
 pub loop-i-init : goal.loop-i-init
 loop-i-init c = (omega arith, begin _ _)

@@ -1,4 +1,6 @@
 -- `pushed_front` meets its contract: each turn puts the carried entry down and takes up the one that stood there, so that after i turns
+-- the first i slots are those of the list with s in front.
+-- Assumes nothing.
 use Prim.Native.Nat.{suc, ◌+◌, ◌-◌, ◌≤◌}
 use Rattle.score.proofs.Shift.{Shifting}
 use Rattle.score.proofs.ScoreDeque.pushed_front.Given as goal

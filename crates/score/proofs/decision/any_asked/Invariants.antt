@@ -1,4 +1,5 @@
 -- `any_asked` meets its contract: the search from the start is the search from i on, as long as no entry before i was found.
+-- Assumes nothing.
 use mathlib.Core.Path.{◌≡◌}
 use Prim.Native.Nat.{◌-◌}
 use lib.ListN.{drop}

@@ -1,4 +1,5 @@
 -- `overs` meets its contract: the whole count is the count so far and the count from i on.
+-- Assumes nothing.
 use mathlib.Core.Path.{◌≡◌}
 use Prim.Native.Nat.{◌+◌, ◌-◌, ◌≤◌}
 use lib.ListN.{take, drop}

@@ -1,4 +1,6 @@
 -- `is_misnumbered` meets its contract: as long as no two neighbours before entry i were astray, the search from the start is the search
+-- from there on, and the whole count of equal neighbours is the count so far and the count from there on.
+-- Assumes nothing.
 use mathlib.Core.Path.{◌≡◌, refl, sym, ◌∙◌, ap}
 use mathlib.Core.Bool.{◌||◌, cond}
 use mathlib.Core.List.{List}
@@ -17,9 +19,6 @@ use Rattle.score.proofs.PairLaws.{numbers_long_lem, number_at_lem, neighbours_lo
 use native.Mathlib.Omega.{arith}
 use Rattle.score.proofs.numbers.is_misnumbered.Goals as goal
 use Rattle.score.proofs.numbers.is_misnumbered.Goals.{then-fall-eq0, else-fall-eq0}
-
--- from there on, and the whole count of equal neighbours is the count so far and the count from there on.
--- Assumes nothing.
 
 -- two neighbours of a deque, and what is left to look at behind them
 module _ (d : ScoreDeque) (r : length d.entries ≡ room) (i : ℕ) where

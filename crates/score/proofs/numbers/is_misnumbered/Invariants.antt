@@ -1,4 +1,6 @@
 -- `is_misnumbered` meets its contract: as long as no two neighbours before entry i were astray, the search from the start is the search
+-- from there on, and the whole count of equal neighbours is the count so far and the count from there on.
+-- Assumes nothing.
 use mathlib.Core.Path.{◌≡◌}
 use Prim.Native.Nat.{◌+◌, ◌-◌, ◌≤◌, ◌<◌, min}
 use lib.ListN.{drop}

@@ -1,4 +1,5 @@
 -- `backward_cost` meets its contract: the walk over all the costs is the walk from i on with the least so far.
+-- Assumes nothing.
 use mathlib.Core.Path.{◌≡◌}
 use mathlib.Core.List.{List, map}
 use Prim.Native.Nat.{ℕ, ◌-◌, ◌≤◌}

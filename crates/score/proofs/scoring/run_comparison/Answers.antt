@@ -1,11 +1,10 @@
 -- `run_comparison` meets its contract: the score that the definition puts in front is pushed, and in Standard the entries behind it are
+-- updated first.
+-- Assumes nothing.
 use mathlib.Core.Path.{◌∙◌}
 use Rattle.score.specs.Deque.{content}
 use Rattle.score.proofs.Room.{entries_of_lem}
 use Rattle.score.proofs.scoring.run_comparison.Goals as goal
-
--- updated first.
--- Assumes nothing.
 
 pub returns-then-fast : goal.returns-then-fast
 returns-then-fast c =

@@ -1,4 +1,5 @@
 -- `updated` meets its contract: after i turns the slots are those of the list with its first i entries updated.
+-- Assumes nothing.
 use mathlib.Core.Path.{◌≡◌}
 use Prim.Native.Nat.{◌-◌, ◌≤◌}
 use Rattle.score.specs.Scores.{updated_of}

@@ -1,12 +1,11 @@
 -- `Settings::fault` meets its contract: the size's refusal comes first, and the depth's where the size has none.
+-- Assumes nothing.
 use Rattle.std.proofs.Common.{sym, ◌∙◌}
 use Rattle.answer.proofs.Laws.{or_given, or_later}
 use Rattle.plane.specs.Planes.{depth_fault}
 use Rattle.scale.specs.Scale.{size_fault}
 use Rattle.settings.specs.Settings.{settings_fault}
 use Rattle.settings.proofs.Settings.fault.Goals as goal
-
--- Assumes nothing.
 
 pub returns-then-size-ne0 : goal.returns-then-size-ne0
 unfolding settings_fault

@@ -1,8 +1,7 @@
 -- `Settings::scaled` meets its contract: the factor comes from the scale rule, and a refused size has none.
+-- Assumes nothing.
 use Rattle.settings.specs.Settings.{is_scaled}
 use Rattle.settings.proofs.Settings.scaled.Goals as goal
-
--- Assumes nothing.
 
 pub returns-in_default : goal.returns-in_default
 unfolding is_scaled
