@@ -4,14 +4,12 @@ use mathlib.Core.Bool.{Bool, true, false, ◌||◌, cond, true≢false}
 use Prim.Native.Nat.{ℕ, suc}
 use native.Mathlib.Nat.{suc-ne-zero}
 use lib.Dec.{eqb}
-use lib.Ieee.{Float}
 use borrow.Author.Tests.{ne_eqb, eqb-true, eqb-false}
-use Rattle.answer.specs.Refusal.{refusal, ◌or_else◌}
-use Rattle.answer.specs.Answer.{Answer, gives, refused, answered, lent_after, whole_answer, real_answer}
-use Rattle.answer.specs.declared.Whole.{Whole}
-use Rattle.answer.specs.declared.Whole.TheVariants as whole
-use Rattle.answer.specs.declared.Real.{Real}
-use Rattle.answer.specs.declared.Real.TheVariants as real
+use Rattle.answer.specs.Refusal.{number_of, refusal, ◌or_else◌}
+use Rattle.answer.specs.Answer.{Answer, gives, refused, answered, lent_after, answer_of, fault_in}
+use Rattle.std.specs.Prelude.{Result, Ok, Err}
+use Rattle.answer.specs.declared.Refusal.{Refusal}
+use Rattle.answer.specs.declared.Refusal.TheVariants.{BadPlane, PastSamples, SizesDiffer, NoRoom, BadDepth, BadSize, BadNumber, BadLength, Stop, BadList, BadState, NoMark, BadCut, NotRising, LogRoom, TooLarge, TooManyRows, RowsLeft, NoBlock}
 
 -- neither of two tests holds
 pub or_no : (a b : Bool) → a || b ≡ false → (a ≡ false) × (b ≡ false)
@@ -105,29 +103,75 @@ answer_same fault a b e = by_case (eqb fault 0) (λ t. e (eqb-true fault 0 t))
     by_case true e = ap gives (e refl)
     by_case false e = refl
 
--- two enum answers with the same number and value are the same: the way back gives each
-module _ {E A : Type 0} (to : E → Answer A) (back : Answer A → E) (same : (r : E) → back (to r) ≡ r) where
-  pub only : (r s : E) → to r ≡ to s → r ≡ s
-  only r s e = sym (same r) ∙ ap back e ∙ same s
+-- a refusal has a number of its own, and 0 is none's
+by_number : ℕ → Refusal
+by_number n =
+    cond (eqb n 1) BadPlane (cond (eqb n 2) PastSamples (cond (eqb n 3) SizesDiffer (cond (eqb n 4) NoRoom (cond (eqb n 5) BadDepth (cond (eqb n 6) BadSize (cond (eqb n 7) BadNumber (cond (eqb n 8) BadLength (cond (eqb n 9) Stop (cond (eqb n 10) BadList (cond (eqb n 11) BadState (cond (eqb n 12) NoMark (cond (eqb n 13) BadCut (cond (eqb n 14) NotRising (cond (eqb n 15) LogRoom (cond (eqb n 16) TooLarge (cond (eqb n 17) TooManyRows (cond (eqb n 18) RowsLeft (NoBlock))))))))))))))))))
 
-pub whole_only : (r s : Whole) → whole_answer r ≡ whole_answer s → r ≡ s
-whole_only = only whole_answer back same
-  where
-    back : Answer ℕ → Whole
-    back (gives n) = whole.Number n
-    back (refused f) = whole.Refused f
+by_number_of : (e : Refusal) → by_number (number_of e) ≡ e
+unfolding by_number
+by_number_of BadPlane = refl
+by_number_of PastSamples = refl
+by_number_of SizesDiffer = refl
+by_number_of NoRoom = refl
+by_number_of BadDepth = refl
+by_number_of BadSize = refl
+by_number_of BadNumber = refl
+by_number_of BadLength = refl
+by_number_of Stop = refl
+by_number_of BadList = refl
+by_number_of BadState = refl
+by_number_of NoMark = refl
+by_number_of BadCut = refl
+by_number_of NotRising = refl
+by_number_of LogRoom = refl
+by_number_of TooLarge = refl
+by_number_of TooManyRows = refl
+by_number_of RowsLeft = refl
+by_number_of NoBlock = refl
 
-    same : (r : Whole) → back (whole_answer r) ≡ r
-    same (whole.Number n) = refl
-    same (whole.Refused f) = refl
+pub number_only : (e d : Refusal) → number_of e ≡ number_of d → e ≡ d
+number_only e d p = sym (by_number_of e) ∙ ap by_number p ∙ by_number_of d
 
-pub real_only : (r s : Real) → real_answer r ≡ real_answer s → r ≡ s
-real_only = only real_answer back same
-  where
-    back : Answer Float → Real
-    back (gives x) = real.Number x
-    back (refused f) = real.Refused f
+pub number_some : (e : Refusal) → number_of e ≡ 0 → ⊥
+number_some BadPlane p = suc-ne-zero _ p
+number_some PastSamples p = suc-ne-zero _ p
+number_some SizesDiffer p = suc-ne-zero _ p
+number_some NoRoom p = suc-ne-zero _ p
+number_some BadDepth p = suc-ne-zero _ p
+number_some BadSize p = suc-ne-zero _ p
+number_some BadNumber p = suc-ne-zero _ p
+number_some BadLength p = suc-ne-zero _ p
+number_some Stop p = suc-ne-zero _ p
+number_some BadList p = suc-ne-zero _ p
+number_some BadState p = suc-ne-zero _ p
+number_some NoMark p = suc-ne-zero _ p
+number_some BadCut p = suc-ne-zero _ p
+number_some NotRising p = suc-ne-zero _ p
+number_some LogRoom p = suc-ne-zero _ p
+number_some TooLarge p = suc-ne-zero _ p
+number_some TooManyRows p = suc-ne-zero _ p
+number_some RowsLeft p = suc-ne-zero _ p
+number_some NoBlock p = suc-ne-zero _ p
 
-    same : (r : Real) → back (real_answer r) ≡ r
-    same (real.Number x) = refl
-    same (real.Refused f) = refl
+-- two results with the same answer are the same
+pub answer_only : {A : Type 0} (r s : Result A Refusal) → answer_of r ≡ answer_of s → r ≡ s
+answer_only (Ok a) (Ok b) p = cc p
+answer_only (Ok a) (Err d) p = cc p
+answer_only (Err e) (Ok b) p = cc p
+answer_only (Err e) (Err d) p =
+    let same : number_of e ≡ number_of d = cc p in ap Err (number_only e d same)
+
+pub fault_only : (r s : Result Unit Refusal) → fault_in r ≡ fault_in s → r ≡ s
+fault_only (Ok u) (Ok v) p = refl
+fault_only (Ok u) (Err d) p = absurd (number_some d (sym p))
+fault_only (Err e) (Ok u) p = absurd (number_some e p)
+fault_only (Err e) (Err d) p = ap Err (number_only e d p)
+
+-- a refusal that is handed on comes first
+pub number_first : (e : Refusal) (f g : ℕ) → number_of e ≡ f → number_of e ≡ f or_else g
+number_first e f g p = or_given _ f g p (number_some e)
+
+-- by these the check finds that a call's refusal is the first that applies: what is handed on comes first, and where it is none the next ones
+-- speak
+pub ruleset refusals = (number_first, or_later)

@@ -1,9 +1,7 @@
 -- An answer: what was asked for, or a refusal's number and nothing else.
-use Rattle.std.specs.Prelude.{cond, ℕ, eqb, Float}
-use Rattle.answer.specs.declared.Whole.{Whole}
-use Rattle.answer.specs.declared.Whole.TheVariants as whole
-use Rattle.answer.specs.declared.Real.{Real}
-use Rattle.answer.specs.declared.Real.TheVariants as real
+use Rattle.std.specs.Prelude.{cond, ℕ, eqb, Result, Ok, Err}
+use Rattle.answer.specs.declared.Refusal.{Refusal}
+use Rattle.answer.specs.Refusal.{number_of}
 
 pub data Answer (A : Type 0) : Type 0 where
   gives : A → Answer A
@@ -17,11 +15,12 @@ answered fault a = cond (eqb fault 0) (gives a) (refused fault)
 unfoldable pub lent_after : {A : Type 0} → ℕ → A → A → A
 lent_after fault new old = cond (eqb fault 0) new old
 
--- the number and the value of each case of the enums
-abbrev pub whole_answer : Whole → Answer ℕ
-whole_answer (whole.Number n) = gives n
-whole_answer (whole.Refused f) = refused f
+-- what a function's result answers
+abbrev pub answer_of : {A : Type 0} → Result A Refusal → Answer A
+answer_of (Ok a) = gives a
+answer_of (Err e) = refused (number_of e)
 
-abbrev pub real_answer : Real → Answer Float
-real_answer (real.Number x) = gives x
-real_answer (real.Refused f) = refused f
+-- the number of the refusal in a result, and 0 where there is none
+abbrev pub fault_in : {A : Type 0} → Result A Refusal → ℕ
+fault_in (Ok a) = 0
+fault_in (Err e) = number_of e

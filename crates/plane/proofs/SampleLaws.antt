@@ -12,10 +12,10 @@ use lib.Bits.{bit_or, or_lt, or_comm, or_add_and, and_le_r}
 use lib.Dec.{leb, eqb}
 use lib.ListN.{length, get_or}
 use lib.Pow.{pow_pos, pow_mono}
-use Rattle.answer.specs.Answer.{gives, refused, answered, whole_answer}
-use Rattle.answer.specs.Refusal.{refusal, ◌or_else◌}
-use Rattle.answer.specs.declared.Whole.{Whole}
-use Rattle.answer.specs.declared.Whole.TheVariants as whole
+use Rattle.answer.specs.Answer.{gives, refused, answered, answer_of}
+use Rattle.answer.specs.Refusal.{number_of, refusal, ◌or_else◌}
+use Rattle.std.specs.Prelude.{Result, Ok, Err}
+use Rattle.answer.specs.declared.Refusal.{Refusal}
 use Rattle.answer.proofs.Laws.{or_no, or_none, or_given, or_later, passed}
 use Rattle.sums.specs.Any.{any_below}
 use Rattle.sums.specs.Needs.{byte_most}
@@ -173,21 +173,21 @@ module _ (word : Word) (depth : ℕ) where
   sample_fault_is p s e f r d = d ∙ sym (or_later _ _ _ (sym e) (or_later _ _ _ (sym f) refl))
 
 -- an answer of what has looked at the samples alone: a number, where none is too large, or 16
-module _ (test : Bool) (value : ℕ) (r : Whole) (e : whole_answer r ≡ answered (refusal 16 test) value) where
-  pub number_given : (n : ℕ) → r ≡ whole.Number n → (0 ≡ refusal 16 test) × (n ≡ value)
+module _ (test : Bool) (value : ℕ) (r : Result ℕ Refusal) (e : answer_of r ≡ answered (refusal 16 test) value) where
+  pub number_given : (n : ℕ) → r ≡ Ok n → (0 ≡ refusal 16 test) × (n ≡ value)
   unfolding answered
-  number_given n d = by_case test (sym (ap whole_answer d) ∙ e)
+  number_given n d = by_case test (sym (ap answer_of d) ∙ e)
     where
       by_case : (t : Bool) → gives n ≡ cond (eqb (refusal 16 t) 0) (gives value) (refused (refusal 16 t)) → (0 ≡ refusal 16 t) × (n ≡ value)
       by_case true q = let z : ◌≡◌ {A = ℕ} 0 1 = cc in absurd (omega arith)
       by_case false q = (refl, cc)
 
-  pub refused_given : (f : ℕ) → r ≡ whole.Refused f → 16 ≡ refusal 16 test
+  pub refused_given : (f : Refusal) → r ≡ Err f → number_of f ≡ refusal 16 test
   unfolding answered
-  refused_given f d = by_case test (sym (ap whole_answer d) ∙ e)
+  refused_given f d = by_case test (sym (ap answer_of d) ∙ e)
     where
-      by_case : (t : Bool) → refused f ≡ cond (eqb (refusal 16 t) 0) (gives value) (refused (refusal 16 t)) → 16 ≡ refusal 16 t
-      by_case true q = refl
+      by_case : (t : Bool) → refused (number_of f) ≡ cond (eqb (refusal 16 t) 0) (gives value) (refused (refusal 16 t)) → number_of f ≡ refusal 16 t
+      by_case true q = cc
       by_case false q = let z : ◌≡◌ {A = ℕ} 0 1 = cc in absurd (omega arith)
 
 -- with bytes the samples decide nothing: what is refused before 16 is all that is refused

@@ -1,11 +1,13 @@
 // Planes of samples in words of 16 bits. What is new beside the functions for bytes is the look at the samples, which a byte does not
 // need.
 ghost use Rattle.std.specs.Prelude.{true, ◌≡◌, ℕ, ◌^◌, leb, length, get_or};
+ghost use Rattle.answer.specs.Answer.{fault_in};
 ghost use Rattle.sums.specs.Any.{any_below};
 ghost use Rattle.plane.specs.Blocks.{blocks_fault};
 ghost use Rattle.plane.specs.Planes.{row_of, plane_fault, deep, suits, word_fault, too_large, rows_large, sample_fault, shapes_fault};
 
 use crate::{BLOCK_SIDE, Plane};
+use answer::Refusal;
 
 // The depths that samples of 16 bits may have.
 const TEN: u64 = 10;
@@ -19,14 +21,19 @@ const WORD_BITS: u64 = 16;
 pub fn is_deep(depth: u64) -> bool
     ensures { result ≡ suits deep depth }
 {
-    (depth == TEN) | (depth == TWELVE)
+    depth == TEN || depth == TWELVE
 }
 
-// Refusal 5 of a depth that samples of 16 bits do not have, or 0.
-pub fn word_fault(depth: u64) -> u32
-    ensures { result ≡ word_fault deep depth }
+// Refusal 5 of a depth that samples of 16 bits do not have.
+#[tactic(auto, unfolding(crate::specs::Planes::word_fault))]
+pub fn word_fault(depth: u64) -> Result<(), Refusal>
+    ensures { fault_in result ≡ word_fault deep depth }
 {
-    if is_deep(depth) { 0 } else { 5 }
+    if is_deep(depth) {
+        Ok(())
+    } else {
+        Err(Refusal::BadDepth)
+    }
 }
 
 // Row y of a plane: its visible samples as a part of the lent ones, or none where they do not lie within.
@@ -79,39 +86,33 @@ fn too_large(depth: u64, p: Plane, s: &[u16]) -> bool
     rows_large(depth, p, s, 0, p.height)
 }
 
-// The refusal of a plane over its lent samples, or 0: of the depth, of its shape, and 16 for a sample that is too large.
-pub fn sample_fault(depth: u64, p: Plane, s: &[u16]) -> u32
-    ensures { result ≡ sample_fault deep depth p s.now }
+// The refusal of a plane over its lent samples: of the depth, of its shape, and 16 for a sample that is too large.
+#[tactic(auto, using(answer::proofs::Laws::refusals), unfolding(crate::specs::Planes::sample_fault))]
+pub fn sample_fault(depth: u64, p: Plane, s: &[u16]) -> Result<(), Refusal>
+    ensures { fault_in result ≡ sample_fault deep depth p s.now }
 {
-    let fault = word_fault(depth);
-    if fault != 0 {
-        return fault;
+    word_fault(depth)?;
+    p.fault(s.len())?;
+    if too_large(depth, p, s) {
+        return Err(Refusal::TooLarge);
     }
-    let shape = p.fault(s.len());
-    if shape != 0 {
-        return shape;
-    }
-    if too_large(depth, p, s) { 16 } else { 0 }
+    Ok(())
 }
 
-// The refusal of two planes by their shapes, or 0: of the depth first, then of the planes.
-pub fn shapes_fault(depth: u64, p: Plane, n: usize, q: Plane, m: usize) -> u32
-    ensures { result ≡ shapes_fault deep depth p n q m }
+// The refusal of two planes by their shapes: of the depth first, then of the planes.
+#[tactic(auto, using(answer::proofs::Laws::refusals), unfolding(crate::specs::Planes::shapes_fault))]
+pub fn shapes_fault(depth: u64, p: Plane, n: usize, q: Plane, m: usize) -> Result<(), Refusal>
+    ensures { fault_in result ≡ shapes_fault deep depth p n q m }
 {
-    let fault = word_fault(depth);
-    if fault != 0 {
-        return fault;
-    }
+    word_fault(depth)?;
     crate::sizes_fault(p, n, q, m)
 }
 
-// The refusal of two planes that are measured by their whole blocks, or 0: by their shapes, and 19 where they have none.
-pub fn blocks_fault(depth: u64, p: Plane, n: usize, q: Plane, m: usize) -> u32
-    ensures { result ≡ blocks_fault deep depth p n q m }
+// The refusal of two planes that are measured by their whole blocks: by their shapes, and 19 where they have none.
+#[tactic(auto, using(answer::proofs::Laws::refusals), unfolding(crate::specs::Blocks::blocks_fault))]
+pub fn blocks_fault(depth: u64, p: Plane, n: usize, q: Plane, m: usize) -> Result<(), Refusal>
+    ensures { fault_in result ≡ blocks_fault deep depth p n q m }
 {
-    let fault = shapes_fault(depth, p, n, q, m);
-    if fault != 0 {
-        return fault;
-    }
+    shapes_fault(depth, p, n, q, m)?;
     crate::block_fault((p.height / BLOCK_SIDE) * (p.width / BLOCK_SIDE))
 }

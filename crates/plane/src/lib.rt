@@ -2,9 +2,12 @@
 #![tactic(auto)]
 
 ghost use Rattle.std.specs.Prelude.{◌≡◌, ◌*◌, leb};
+ghost use Rattle.answer.specs.Answer.{fault_in};
 ghost use Rattle.plane.specs.Blocks.{block_row, block_fault, blocks_fault};
 ghost use Rattle.plane.specs.Needs.{SpanOf};
-ghost use Rattle.plane.specs.Planes.{bad_side, row_end, row_of, plane_fault, sizes_fault, byte, depth_fault, word_fault, shapes_fault, pair_fault};
+ghost use Rattle.plane.specs.Planes.{bad_side, bad_plane, row_end, row_of, plane_fault, sizes_fault, byte, depth_fault, word_fault, shapes_fault, pair_fault};
+
+use answer::Refusal;
 
 pub mod deep;
 
@@ -34,10 +37,11 @@ struct Span {
 }
 
 // Whether a side is 0 or above the largest.
+#[tactic(auto, unfolding(crate::specs::Planes::bad_side))]
 pub fn bad_side(n: usize) -> bool
     ensures { result ≡ bad_side n }
 {
-    (n == 0) | (MAX_SIDE < n)
+    n == 0 || MAX_SIDE < n
 }
 
 // Whether y strides fit into a room: by the product where it cannot overflow, which is quick, and else by a division.
@@ -72,20 +76,26 @@ impl Plane {
         strides_fit(y, self.stride, before - origin)
     }
 
-    // Refusal 1 or 2 of the plane over n samples, or 0.
-    pub fn fault(self, n: usize) -> u32
-        ensures { result ≡ plane_fault self n }
+    // Whether a side is bad, or the stride is below the width.
+    #[tactic(auto, unfolding(crate::specs::Planes::bad_plane))]
+    fn is_bad(self) -> bool
+        ensures { result ≡ bad_plane self }
     {
-        let width = self.width;
-        let height = self.height;
-        let stride = self.stride;
-        if bad_side(width) | bad_side(height) | (stride < width) {
-            return 1;
+        bad_side(self.width) || bad_side(self.height) || self.stride < self.width
+    }
+
+    // Refusal 1 or 2 of the plane over n samples.
+    #[tactic(auto, using(answer::proofs::Laws::refusals), unfolding(crate::specs::Planes::plane_fault, crate::specs::Planes::past_samples))]
+    pub fn fault(self, n: usize) -> Result<(), Refusal>
+        ensures { fault_in result ≡ plane_fault self n }
+    {
+        if self.is_bad() {
+            return Err(Refusal::BadPlane);
         }
-        if self.row_lies(n, height - 1) {
-            return 0;
+        if !self.row_lies(n, self.height - 1) {
+            return Err(Refusal::PastSamples);
         }
-        2
+        Ok(())
     }
 
     // Where row y stands over n samples; nowhere, if it does not lie within them.
@@ -131,76 +141,77 @@ impl Plane {
     }
 }
 
-// Refusal 5 of a detector's depth, or 0.
-pub fn depth_fault(depth: u64) -> u32
-    ensures { result ≡ depth_fault depth }
+// Refusal 5 of a detector's depth.
+#[tactic(auto, unfolding(crate::specs::Planes::depth_fault))]
+pub fn depth_fault(depth: u64) -> Result<(), Refusal>
+    ensures { fault_in result ≡ depth_fault depth }
 {
-    if (depth == BYTE_DEPTH) | deep::is_deep(depth) {
-        0
+    if depth == BYTE_DEPTH || deep::is_deep(depth) {
+        Ok(())
     } else {
-        5
+        Err(Refusal::BadDepth)
     }
 }
 
-// Refusal 5 of a depth that samples of a byte do not have, or 0.
-pub fn byte_fault(depth: u64) -> u32
-    ensures { result ≡ word_fault byte depth }
+// Refusal 5 of a depth that samples of a byte do not have.
+#[tactic(auto, unfolding(crate::specs::Planes::word_fault))]
+pub fn byte_fault(depth: u64) -> Result<(), Refusal>
+    ensures { fault_in result ≡ word_fault byte depth }
 {
-    if depth == BYTE_DEPTH { 0 } else { 5 }
+    if depth == BYTE_DEPTH {
+        Ok(())
+    } else {
+        Err(Refusal::BadDepth)
+    }
 }
 
-// The refusal of two planes over n and m samples, or 0: 1 and 2 of the first, 1 and 2 of the second, and 3 where their
-// sizes differ.
-fn sizes_fault(p: Plane, n: usize, q: Plane, m: usize) -> u32
-    ensures { result ≡ sizes_fault p n q m }
+// The refusal of two planes over n and m samples: 1 and 2 of the first, 1 and 2 of the second, and 3 where their sizes differ.
+#[tactic(auto, using(answer::proofs::Laws::refusals), unfolding(crate::specs::Planes::sizes_fault, crate::specs::Planes::sizes_differ))]
+fn sizes_fault(p: Plane, n: usize, q: Plane, m: usize) -> Result<(), Refusal>
+    ensures { fault_in result ≡ sizes_fault p n q m }
 {
-    let first = p.fault(n);
-    if first != 0 {
-        return first;
+    p.fault(n)?;
+    q.fault(m)?;
+    if p.width != q.width || p.height != q.height {
+        return Err(Refusal::SizesDiffer);
     }
-    let second = q.fault(m);
-    if second != 0 {
-        return second;
-    }
-    if (p.width != q.width) | (p.height != q.height) {
-        return 3;
-    }
-    0
+    Ok(())
 }
 
-// The refusal of two planes of bytes by their shapes, or 0: of the depth first, then of the planes.
-pub fn shapes_fault(depth: u64, p: Plane, n: usize, q: Plane, m: usize) -> u32
-    ensures { result ≡ shapes_fault byte depth p n q m }
+// The refusal of two planes of bytes by their shapes: of the depth first, then of the planes.
+#[tactic(auto, using(answer::proofs::Laws::refusals), unfolding(crate::specs::Planes::shapes_fault))]
+pub fn shapes_fault(depth: u64, p: Plane, n: usize, q: Plane, m: usize) -> Result<(), Refusal>
+    ensures { fault_in result ≡ shapes_fault byte depth p n q m }
 {
-    let fault = byte_fault(depth);
-    if fault != 0 {
-        return fault;
-    }
+    byte_fault(depth)?;
     sizes_fault(p, n, q, m)
 }
 
-// The refusal of the difference and of delta, of two planes over their lent bytes, or 0. No byte is too large for its depth, so none is
+// The refusal of the difference and of delta, of two planes over their lent bytes. No byte is too large for its depth, so none is
 // looked at.
-pub fn pair_fault(depth: u64, p: Plane, a: &[u8], q: Plane, b: &[u8]) -> u32
-    ensures { result ≡ pair_fault byte depth p a.now q b.now }
+pub fn pair_fault(depth: u64, p: Plane, a: &[u8], q: Plane, b: &[u8]) -> Result<(), Refusal>
+    ensures { fault_in result ≡ pair_fault byte depth p a.now q b.now }
 {
     shapes_fault(depth, p, a.len(), q, b.len())
 }
 
-// Refusal 19 where there is no whole block, or 0.
-pub fn block_fault(count: usize) -> u32
-    ensures { result ≡ block_fault count }
+// Refusal 19 where there is no whole block.
+#[tactic(auto, unfolding(crate::specs::Blocks::block_fault))]
+pub fn block_fault(count: usize) -> Result<(), Refusal>
+    ensures { fault_in result ≡ block_fault count }
 {
-    if count == 0 { 19 } else { 0 }
+    if count == 0 {
+        Err(Refusal::NoBlock)
+    } else {
+        Ok(())
+    }
 }
 
-// The refusal of two planes of bytes that are measured by their whole blocks, or 0: by their shapes, and 19 where they have none.
-pub fn blocks_fault(depth: u64, p: Plane, n: usize, q: Plane, m: usize) -> u32
-    ensures { result ≡ blocks_fault byte depth p n q m }
+// The refusal of two planes of bytes that are measured by their whole blocks: by their shapes, and 19 where they have none.
+#[tactic(auto, using(answer::proofs::Laws::refusals), unfolding(crate::specs::Blocks::blocks_fault))]
+pub fn blocks_fault(depth: u64, p: Plane, n: usize, q: Plane, m: usize) -> Result<(), Refusal>
+    ensures { fault_in result ≡ blocks_fault byte depth p n q m }
 {
-    let fault = shapes_fault(depth, p, n, q, m);
-    if fault != 0 {
-        return fault;
-    }
+    shapes_fault(depth, p, n, q, m)?;
     block_fault((p.height / BLOCK_SIDE) * (p.width / BLOCK_SIDE))
 }
