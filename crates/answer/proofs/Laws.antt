@@ -172,6 +172,11 @@ fault_only (Err e) (Err d) p = ap Err (number_only e d p)
 pub number_first : (e : Refusal) (f g : ℕ) → number_of e ≡ f → number_of e ≡ f or_else g
 number_first e f g p = or_given _ f g p (number_some e)
 
--- by these the check finds that a call's refusal is the first that applies: what is handed on comes first, and where it is none the next ones
--- speak
+-- by these the check finds that a refusal is the first that applies: one that is handed on comes first, and where it is none the next ones speak
 pub ruleset refusals = (number_first, or_later)
+
+-- the answer of a result: the refusal that is handed on, or the value where there is none
+pub answer_handed : {A : Type 0} (e : Refusal) (fault : ℕ) (a : A) → number_of e ≡ fault → refused (number_of e) ≡ answered fault a
+answer_handed e fault a p = answer_refused _ fault a p (number_some e)
+
+pub ruleset answers = (answer_handed, answer_given)

@@ -1,8 +1,10 @@
 -- The factor is never 0, and at most 32. Assumes nothing.
 use mathlib.Core.Bool.{Bool, true, false, cond}
-use Prim.Native.Nat.{ℕ, ◌≤◌, ◌<◌}
+use mathlib.Core.Path.{◌≡◌, refl}
+use Prim.Native.Nat.{ℕ, min, ◌≤◌, ◌<◌}
 use native.Mathlib.Omega.{arith}
-use lib.Dec.{leb, eqb}
+use lib.Dec.{leb, ltb, eqb}
+use borrow.Author.Tests.{ltb-true, ltb-false}
 use Rattle.scale.specs.Scale.{factor_by, scale_of, small_edge, mode_fast}
 
 -- what holds of two numbers holds of either
@@ -31,3 +33,11 @@ some_factor width height mode = (in_table width height mode).0
 
 pub factor_most : (width height mode : ℕ) → scale_of width height mode ≤ 32
 factor_most width height mode = (in_table width height mode).1
+
+-- the smaller side is the lesser of the two
+pub smaller : (width height : ℕ) → min width height ≡ small_edge width height
+smaller width height = by_case (ltb width height) (ltb-true width height) (ltb-false width height)
+  where
+    by_case : (t : Bool) → (t ≡ true → width < height) → (t ≡ false → height ≤ width) → min width height ≡ cond t width height
+    by_case true is isn't = omega (arith, is refl)
+    by_case false is isn't = omega (arith, isn't refl)

@@ -1,10 +1,10 @@
 -- Document 01, "Plane difference and scale": the scale by the smaller side; and refusal 6.
-use Rattle.std.specs.Prelude.{ℕ, ◌/◌, ◌||◌, cond, ltb, leb, eqb}
-use Rattle.answer.specs.Refusal.{refusal}
+use Rattle.std.specs.Prelude.{ℕ, ◌/◌, ◌||◌, cond, ltb, leb, eqb, Result, Ok, Err}
+use Rattle.answer.specs.Refusal.{number_of, refusal}
 use Rattle.answer.specs.Answer.{Answer, gives, refused, answered}
 use Rattle.plane.specs.Planes.{bad_side}
+use Rattle.answer.specs.declared.Refusal.{Refusal}
 use Rattle.scale.specs.declared.Sides.{Sides}
-use Rattle.scale.specs.declared.Sides.TheVariants as sides
 
 -- "mode not 0 None, 1 Fast, 2 Standard"
 abbrev pub mode_fast : ℕ
@@ -43,7 +43,7 @@ abbrev pub reduced_sides : ℕ → ℕ → ℕ → Answer (ℕ × ℕ)
 reduced_sides width height mode =
     answered (size_fault width height mode) (width / scale_of width height mode, height / scale_of width height mode)
 
--- the number and the values of each case of the enum
-abbrev pub sides_answer : Sides → Answer (ℕ × ℕ)
-sides_answer (sides.Reduced w h) = gives (w, h)
-sides_answer (sides.Refused f) = refused f
+-- the two sides of a result, or the number of its refusal
+abbrev pub sides_answer : Result Sides Refusal → Answer (ℕ × ℕ)
+sides_answer (Ok s) = gives (s.width, s.height)
+sides_answer (Err e) = refused (number_of e)

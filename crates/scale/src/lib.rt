@@ -2,21 +2,21 @@
 #![tactic(auto)]
 
 ghost use Rattle.std.specs.Prelude.{◌≡◌};
-ghost use Rattle.answer.specs.Answer.{whole_answer};
+ghost use Rattle.answer.specs.Answer.{answer_of, fault_in};
 ghost use Rattle.scale.specs.Scale.{factor_by, scale_of, size_fault, factor_answer, sides_answer, reduced_sides};
 
-use answer::Whole;
+use answer::Refusal;
 
 // The modes (SceneDetectionSpeed) by their numbers: 0 is None and 2 is Standard.
 const FAST: u64 = 1;
 
 const STANDARD: u64 = 2;
 
-// The sides of a frame as Fast mode compares it, or the number of the refusal.
-#[derive(Clone, Copy)]
-pub enum Sides {
-    Reduced { width: usize, height: usize },
-    Refused(u32),
+// The sides of a frame as Fast mode compares it.
+#[derive(Clone, Copy, Debug, PartialEq, Eq)]
+pub struct Sides {
+    pub width: usize,
+    pub height: usize,
 }
 
 // The factor by the smaller side, 1 for none.
@@ -40,44 +40,38 @@ fn factor(width: usize, height: usize, mode: u64) -> usize
     if mode != FAST {
         return 1;
     }
-    if width < height {
-        return factor_by(width);
-    }
-    factor_by(height)
+    factor_by(width.min(height))
 }
 
-// Refusal 6 of a resolution and a mode, or 0.
-pub fn size_fault(width: usize, height: usize, mode: u64) -> u32
-    ensures { result ≡ size_fault width height mode }
+// Refusal 6 of a resolution and a mode.
+#[tactic(auto, unfolding(crate::specs::Scale::size_fault))]
+pub fn size_fault(width: usize, height: usize, mode: u64) -> Result<(), Refusal>
+    ensures { fault_in result ≡ size_fault width height mode }
 {
-    if plane::bad_side(width) | plane::bad_side(height) | (STANDARD < mode) {
-        return 6;
+    if plane::bad_side(width) || plane::bad_side(height) || STANDARD < mode {
+        return Err(Refusal::BadSize);
     }
-    0
+    Ok(())
 }
 
 // The factor that Fast mode scales a frame by, 1 for none.
-pub fn detect_scale_factor(width: usize, height: usize, mode: u64) -> Whole
-    ensures { whole_answer result ≡ factor_answer width height mode }
+#[tactic(auto, using(answer::proofs::Laws::answers))]
+pub fn detect_scale_factor(width: usize, height: usize, mode: u64) -> Result<u64, Refusal>
+    ensures { answer_of result ≡ factor_answer width height mode }
 {
-    let fault = size_fault(width, height, mode);
-    if fault != 0 {
-        return Whole::Refused(fault);
-    }
-    Whole::Number(factor(width, height, mode) as u64)
+    size_fault(width, height, mode)?;
+    Ok(factor(width, height, mode) as u64)
 }
 
 // The sides divided by the factor, rounded down.
-pub fn reduced_sides(width: usize, height: usize, mode: u64) -> Sides
+#[tactic(auto, using(answer::proofs::Laws::answers))]
+pub fn reduced_sides(width: usize, height: usize, mode: u64) -> Result<Sides, Refusal>
     ensures { sides_answer result ≡ reduced_sides width height mode }
 {
-    let fault = size_fault(width, height, mode);
-    if fault != 0 {
-        return Sides::Refused(fault);
-    }
+    size_fault(width, height, mode)?;
     let by = factor(width, height, mode);
-    Sides::Reduced {
+    Ok(Sides {
         width: width / by,
         height: height / by,
-    }
+    })
 }

@@ -2,9 +2,10 @@
 #![tactic(auto)]
 
 ghost use Rattle.std.specs.Prelude.{◌≡◌};
+ghost use Rattle.answer.specs.Answer.{fault_in};
 ghost use Rattle.settings.specs.Settings.{lookahead_offset, fast_threshold, importance_threshold, is_scaled, settings_fault};
 
-use answer::Whole;
+use answer::Refusal;
 
 #[derive(Clone, Copy)]
 pub struct Settings {
@@ -41,26 +42,22 @@ impl Settings {
 
     pub const FAST: u64 = 1;
 
-    // Refusal 6 or 5 of the settings, or 0.
-    pub fn fault(self) -> u32
-        ensures { result ≡ settings_fault self }
+    // Refusal 6 or 5 of the settings.
+    #[tactic(auto, using(answer::proofs::Laws::refusals), unfolding(crate::specs::Settings::settings_fault))]
+    pub fn fault(self) -> Result<(), Refusal>
+        ensures { fault_in result ≡ settings_fault self }
     {
-        let size = scale::size_fault(self.width, self.height, self.mode);
-        if size != 0 {
-            return size;
-        }
+        scale::size_fault(self.width, self.height, self.mode)?;
         plane::depth_fault(self.bit_depth)
     }
 
     // Whether frames are reduced before they are compared.
+    #[tactic(auto, unfolding(crate::specs::Settings::is_scaled))]
     pub fn scaled(self) -> bool
         ensures { result ≡ is_scaled self }
     {
-        let answer = scale::detect_scale_factor(self.width, self.height, self.mode);
-        let Whole::Number(factor) = answer else {
-            return false;
-        };
-        factor != 1
+        scale::detect_scale_factor(self.width, self.height, self.mode).is_ok_and(|factor| factor
+            != 1)
     }
 
     // A, the lookahead offset.
