@@ -56,8 +56,8 @@ impl Settings {
     pub fn scaled(self) -> bool
         ensures { result ≡ is_scaled self }
     {
-        scale::detect_scale_factor(self.width, self.height, self.mode).is_ok_and(|factor| factor
-            != 1)
+        let factor = scale::detect_scale_factor(self.width, self.height, self.mode);
+        factor.is_ok_and(|k| k != 1)
     }
 
     // A, the lookahead offset.
