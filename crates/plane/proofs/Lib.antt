@@ -3,4 +3,5 @@ pub mod SampleLaws
 pub mod BlockLaws
 pub mod SquareLaws
 pub mod Unique
-pub mod DeepUnique
+pub mod Words
+pub mod WordUnique

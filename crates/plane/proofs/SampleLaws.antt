@@ -1,7 +1,7 @@
 -- When a visible sample is too large for a depth, told from the bits that samples have together; and what samples keep to where none is. All
 -- of it is over the depth, so that it serves both words. Assumes nothing.
 use mathlib.Core.Bool.{Bool, true, false, not, ◌||◌, cond}
-use mathlib.Core.List.{List}
+use mathlib.Core.List.{List, []}
 use mathlib.Core.Path.{◌≡◌, refl, sym, ap, ◌∙◌}
 use Prim.Native.Nat.{ℕ, ◌+◌, ◌-◌, ◌*◌, ◌/◌, ◌≤◌, ◌<◌, ◌^◌}
 use native.Mathlib.Decide.{dec_lt}
@@ -10,7 +10,9 @@ use native.Mathlib.Omega.{arith}
 use borrow.Author.Tests.{lt-leb, le-leb, leb-false, eqb-true, eqb-false, ne_eqb, not-false}
 use lib.Bits.{bit_or, or_lt, or_comm, or_add_and, and_le_r}
 use lib.Dec.{leb, eqb}
-use lib.ListN.{length, get_or}
+use lib.ListN.{length, get_or, take, drop, length-take}
+use lib.Seq.{get_or-take, get_or-drop}
+use Rattle.std.proofs.Math.ListN.{get_or-eq_default}
 use lib.Pow.{pow_pos, pow_mono}
 use Rattle.answer.specs.Answer.{gives, refused, answered, answer_of}
 use Rattle.answer.specs.Refusal.{number_of, refusal, ◌or_else◌}
@@ -21,7 +23,7 @@ use Rattle.sums.specs.Any.{any_below}
 use Rattle.sums.specs.Needs.{byte_most}
 use Rattle.sums.proofs.AnyLaws.{any_zero, any_more, any_none, any_ext, any_below_lem, any_at}
 use Rattle.plane.specs.declared.Plane.{Plane}
-use Rattle.plane.specs.Planes.{Word, byte, suits, sample_at, row_of, row_large, rows_large, word_fault, plane_fault, sizes_fault, too_large, sample_fault, shapes_fault, pair_fault}
+use Rattle.plane.specs.Planes.{Word, byte, suits, sample_at, row_end, row_of, row_large, rows_large, word_fault, plane_fault, sizes_fault, too_large, sample_fault, shapes_fault, pair_fault}
 use Rattle.plane.proofs.PlaneLaws.{Lies, length_row, row_at, sizes_alone}
 
 -- ---- the bits that numbers have together
@@ -51,9 +53,9 @@ reach_shift n x = go (dec_lt x (2 ^ n))
         let some : 1 ≤ x / 2 ^ n = (le-div_iff_mul-le (pow_pos n)).1 (omega arith) in
         rw (ne_eqb (x / 2 ^ n) 0 (λ e. omega arith), le-leb (2 ^ n) x (omega arith)) refl
 
--- no word of 16 bits does from there on
-pub reach_past : (n x : ℕ) → 16 ≤ n → x < 2 ^ 16 → false ≡ leb (2 ^ n) x
-reach_past n x h k = let far : 2 ^ 16 ≤ 2 ^ n = pow_mono h in sym (lt-leb (2 ^ n) x (omega arith))
+-- no sample of so many bits does from there on
+pub reach_past : (bits n x : ℕ) → bits ≤ n → x < 2 ^ bits → false ≡ leb (2 ^ n) x
+reach_past bits n x h k = let far : 2 ^ bits ≤ 2 ^ n = pow_mono h in sym (lt-leb (2 ^ n) x (omega arith))
 
 -- so many tests, one for each power of two: the bits reach those of which a test holds
 abbrev pub Reach : ℕ → ℕ → (ℕ → ℕ → Bool) → Type 0
@@ -94,6 +96,28 @@ pub row_large_lem : (p : Plane) (s : List ℕ) (y : ℕ) → Lies p (length s) �
 row_large_lem p s y l h n =
     rw (length_row p s y l h)
     (any_below_lem p.width (λ (x : ℕ). leb (2 ^ n) (get_or (row_of p s y) x 0)) (large_at p s y n) (λ x x<. ap (leb (2 ^ n)) (row_at p s y l h x x<)))
+
+-- what no sample of a list is above, no sample of a row is, so none of rows reaches what lies above it
+row_most : (m : ℕ) (p : Plane) (s : List ℕ) (y : ℕ) → ((i : ℕ) → get_or s i 0 ≤ m) → (x : ℕ) → get_or (row_of p s y) x 0 ≤ m
+unfolding row_of
+row_most m p s y l x = by_case (leb (row_end p y) (length s))
+  where
+    within : Dec (x < p.width) → get_or (take p.width (drop (p.origin + y * p.stride) s)) x 0 ≤ m
+    within (yes h) = rw (get_or-take, get_or-drop) (l (p.origin + y * p.stride + x))
+    within (no h) =
+        let rest : length (take p.width (drop (p.origin + y * p.stride) s)) ≤ x = simp length-take (omega arith) in
+        rw (get_or-eq_default (take p.width (drop (p.origin + y * p.stride) s)) 0 rest) (omega arith)
+
+    by_case : (t : Bool) → get_or (cond t (take p.width (drop (p.origin + y * p.stride) s)) []) x 0 ≤ m
+    by_case true = within (dec_lt x p.width)
+    by_case false = omega arith
+
+pub rows_past : (bits m depth : ℕ) (p : Plane) (s : List ℕ) (from to : ℕ) → bits ≤ depth → m < 2 ^ bits → ((i : ℕ) → get_or s i 0 ≤ m)
+    → false ≡ rows_large depth p s from to
+rows_past bits m depth p s from to h k l =
+    sym (any_none (to - from) (λ (j : ℕ). row_large depth p s (from + j))
+    (λ j. any_none (length (row_of p s (from + j))) (λ (x : ℕ). leb (2 ^ depth) (get_or (row_of p s (from + j)) x 0))
+    (λ x. sym (reach_past bits depth _ h (omega (arith, row_most m p s (from + j) l x))))))
 
 -- rows from one up to another, by the plane's samples
 pub rows_are : (depth : ℕ) (p : Plane) (s : List ℕ) (from to : ℕ) → Lies p (length s) → to ≤ p.height

@@ -5,17 +5,19 @@ ghost use Rattle.std.specs.Prelude.{◌≡◌, ◌*◌, leb};
 ghost use Rattle.answer.specs.Answer.{fault_in};
 ghost use Rattle.plane.specs.Blocks.{block_row, block_fault, blocks_fault};
 ghost use Rattle.plane.specs.Needs.{SpanOf};
-ghost use Rattle.plane.specs.Planes.{bad_side, bad_plane, row_end, row_of, plane_fault, sizes_fault, byte, depth_fault, word_fault, shapes_fault, pair_fault};
+ghost use Rattle.plane.specs.Planes.{bad_side, bad_plane, row_end, row_of, plane_fault, sizes_fault, depth_fault, word_fault, shapes_fault};
 
 use answer::Refusal;
+use sums::Sample;
 
-pub mod deep;
+mod depths;
+mod samples;
+
+pub use depths::Depths;
+pub use samples::{reaches, rows_large, sample_fault};
 
 // The largest side, of a plane as of a resolution.
 const MAX_SIDE: usize = 8192;
-
-// The depth of samples that are bytes.
-const BYTE_DEPTH: u64 = 8;
 
 // The side of a block.
 pub const BLOCK_SIDE: usize = 8;
@@ -116,8 +118,8 @@ impl Plane {
     }
 
     // Row y of the plane: its visible samples as a part of the lent ones, or none where they do not lie within.
-    pub fn row(self, s: &[u8], y: usize) -> &[u8]
-        ensures { result.now ≡ row_of self s.now y }
+    pub fn row<S: Sample>(self, s: &[S], y: usize) -> &[S]
+        ensures { S.values result.now ≡ row_of self (S.values s.now) y }
     {
         let part = self.span(s.len(), y);
         let start = part.start;
@@ -146,19 +148,19 @@ impl Plane {
 pub fn depth_fault(depth: u64) -> Result<(), Refusal>
     ensures { fault_in result ≡ depth_fault depth }
 {
-    if depth == BYTE_DEPTH || deep::is_deep(depth) {
+    if u8::suits(depth) || u16::suits(depth) {
         Ok(())
     } else {
         Err(Refusal::BadDepth)
     }
 }
 
-// Refusal 5 of a depth that samples of a byte do not have.
+// Refusal 5 of a depth that the samples' word does not have.
 #[tactic(auto, unfolding(crate::specs::Planes::word_fault))]
-pub fn byte_fault(depth: u64) -> Result<(), Refusal>
-    ensures { fault_in result ≡ word_fault byte depth }
+pub fn word_fault<S: Depths>(depth: u64) -> Result<(), Refusal>
+    ensures { fault_in result ≡ word_fault S.word depth }
 {
-    if depth == BYTE_DEPTH {
+    if S::suits(depth) {
         Ok(())
     } else {
         Err(Refusal::BadDepth)
@@ -178,21 +180,19 @@ fn sizes_fault(p: Plane, n: usize, q: Plane, m: usize) -> Result<(), Refusal>
     Ok(())
 }
 
-// The refusal of two planes of bytes by their shapes: of the depth first, then of the planes.
+// The refusal of two planes by their shapes: of the depth first, then of the planes.
 #[tactic(auto, using(answer::proofs::Laws::refusals), unfolding(crate::specs::Planes::shapes_fault))]
-pub fn shapes_fault(depth: u64, p: Plane, n: usize, q: Plane, m: usize) -> Result<(), Refusal>
-    ensures { fault_in result ≡ shapes_fault byte depth p n q m }
+pub fn shapes_fault<S: Depths>(
+    depth: u64,
+    p: Plane,
+    n: usize,
+    q: Plane,
+    m: usize,
+) -> Result<(), Refusal>
+    ensures { fault_in result ≡ shapes_fault S.word depth p n q m }
 {
-    byte_fault(depth)?;
+    word_fault::<S>(depth)?;
     sizes_fault(p, n, q, m)
-}
-
-// The refusal of the difference and of delta, of two planes over their lent bytes. No byte is too large for its depth, so none is
-// looked at.
-pub fn pair_fault(depth: u64, p: Plane, a: &[u8], q: Plane, b: &[u8]) -> Result<(), Refusal>
-    ensures { fault_in result ≡ pair_fault byte depth p a.now q b.now }
-{
-    shapes_fault(depth, p, a.len(), q, b.len())
 }
 
 // Refusal 19 where there is no whole block.
@@ -207,11 +207,17 @@ pub fn block_fault(count: usize) -> Result<(), Refusal>
     }
 }
 
-// The refusal of two planes of bytes that are measured by their whole blocks: by their shapes, and 19 where they have none.
+// The refusal of two planes that are measured by their whole blocks: by their shapes, and 19 where they have none.
 #[tactic(auto, using(answer::proofs::Laws::refusals), unfolding(crate::specs::Blocks::blocks_fault))]
-pub fn blocks_fault(depth: u64, p: Plane, n: usize, q: Plane, m: usize) -> Result<(), Refusal>
-    ensures { fault_in result ≡ blocks_fault byte depth p n q m }
+pub fn blocks_fault<S: Depths>(
+    depth: u64,
+    p: Plane,
+    n: usize,
+    q: Plane,
+    m: usize,
+) -> Result<(), Refusal>
+    ensures { fault_in result ≡ blocks_fault S.word depth p n q m }
 {
-    shapes_fault(depth, p, n, q, m)?;
+    shapes_fault::<S>(depth, p, n, q, m)?;
     block_fault((p.height / BLOCK_SIDE) * (p.width / BLOCK_SIDE))
 }

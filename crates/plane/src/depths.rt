@@ -1,0 +1,68 @@
+// Which depths a sample's word has: 8 bits a byte; 10 and 12 a word of 16 bits.
+ghost use Rattle.std.proofs.Common.{rules};
+ghost use Rattle.std.specs.Prelude.{◌≡◌, ℕ, ◌<◌, ◌≤◌, ◌^◌, bit_or};
+ghost use Rattle.plane.specs.Planes.{Word, byte, deep, suits};
+
+use sums::Sample;
+
+pub trait Depths: Sample {
+    // The word, as the refusals speak of it.
+    ghost word: { Word };
+
+    // How many bits it has.
+    ghost BITS: { ℕ };
+
+    const BITS: u64;
+
+    // Whether samples of the word may have this depth.
+    fn suits(depth: u64) -> bool
+        ensures { result ≡ suits word depth };
+
+    // The bits that either has.
+    fn or(self, other: Self) -> Self
+        ensures { Self.Sample.value result ≡ bit_or (Self.Sample.value self) (Self.Sample.value other) };
+
+    ghost narrow: { BITS ≤ 16 };
+
+    ghost fits: { Self.Sample.most < 2 ^ BITS };
+}
+
+impl Depths for u8 {
+    ghost word = { byte };
+
+    ghost BITS = { 8 };
+
+    const BITS: u64 = 8;
+
+    ghost narrow = { Prim.search rules };
+
+    ghost fits = { Prim.search rules };
+
+    fn suits(depth: u64) -> bool {
+        depth == 8
+    }
+
+    fn or(self, other: u8) -> u8 {
+        self | other
+    }
+}
+
+impl Depths for u16 {
+    ghost word = { deep };
+
+    ghost BITS = { 16 };
+
+    const BITS: u64 = 16;
+
+    ghost narrow = { Prim.search rules };
+
+    ghost fits = { Prim.search rules };
+
+    fn suits(depth: u64) -> bool {
+        depth == 10 || depth == 12
+    }
+
+    fn or(self, other: u16) -> u16 {
+        self | other
+    }
+}

@@ -1,0 +1,66 @@
+// A look at samples, which a word of 16 bits needs: whether one reaches 2 to the depth. No byte does at its depth, and none is looked at.
+ghost use Rattle.std.specs.Prelude.{◌≡◌, ℕ, ◌^◌, leb, length, get_or};
+ghost use Rattle.answer.specs.Answer.{fault_in};
+ghost use Rattle.sums.specs.Any.{any_below};
+ghost use Rattle.plane.specs.Planes.{plane_fault, too_large, rows_large, sample_fault};
+
+use crate::{Depths, Plane};
+use answer::Refusal;
+
+// Whether a sample reaches 2 to the depth.
+pub fn reaches<S: Depths>(x: S, depth: u64) -> bool
+    ensures { result ≡ leb (2 ^ depth) (S.Sample.value x) }
+{
+    let v = x.widened();
+    if depth < S::BITS {
+        return (v >> depth) != 0;
+    }
+    false
+}
+
+// The bits that some sample of a row has. It reaches a power of two where a sample does: one instruction looks at eight.
+fn bits_of<S: Depths>(row: &[S]) -> S
+    ensures { (n : ℕ) → leb (2 ^ n) (S.Sample.value result) ≡ any_below (length (S.Sample.values row.now)) (λ (x : ℕ). leb (2 ^ n) (get_or (S.Sample.values row.now) x 0)) }
+{
+    let mut bits = S::narrowed(0);
+    for x in row {
+        bits = bits.or(*x);
+    }
+    bits
+}
+
+// Whether one of the rows from one up to another has a sample that reaches 2 to the depth.
+pub fn rows_large<S: Depths>(depth: u64, p: Plane, s: &[S], from: usize, to: usize) -> bool
+    ensures { result ≡ rows_large depth p (S.Sample.values s.now) from to }
+{
+    if S::BITS <= depth {
+        S::bounded(s);
+        return false;
+    }
+    let mut bits = S::narrowed(0);
+    for y in from..to {
+        bits = bits.or(bits_of(p.row(s, y)));
+    }
+    reaches(bits, depth)
+}
+
+// Whether a plane that is not refused has a visible sample that reaches 2 to the depth.
+fn too_large<S: Depths>(depth: u64, p: Plane, s: &[S]) -> bool
+    requires { plane_fault p (length s.now) ≡ 0 }
+    ensures { result ≡ too_large depth p (S.Sample.values s.now) }
+{
+    rows_large(depth, p, s, 0, p.height)
+}
+
+// The refusal of a plane over its lent samples: of the depth, of its shape, and 16 for a sample that is too large.
+#[tactic(auto, using(answer::proofs::Laws::refusals), unfolding(crate::specs::Planes::sample_fault))]
+pub fn sample_fault<S: Depths>(depth: u64, p: Plane, s: &[S]) -> Result<(), Refusal>
+    ensures { fault_in result ≡ sample_fault S.word depth p (S.Sample.values s.now) }
+{
+    crate::word_fault::<S>(depth)?;
+    p.fault(s.len())?;
+    if too_large(depth, p, s) {
+        return Err(Refusal::TooLarge);
+    }
+    Ok(())
+}
