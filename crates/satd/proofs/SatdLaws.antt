@@ -5,13 +5,15 @@ use mathlib.Core.List.{List}
 use Prim.Native.Nat.{ℕ, ◌+◌, ◌*◌, ◌/◌, ◌≤◌, ◌<◌}
 use native.Mathlib.Omega.{arith}
 use borrow.Author.Tests.{eq-eqb, ne_eqb}
-use lib.IntN.{ℤ, pos, nat_abs}
+use lib.IntN.{ℤ, pos, ◌-ℤ◌, nat_abs}
+use Rattle.std.specs.Prelude.{map}
 use lib.ListN.{length, get_or, set, length-set}
 use Rattle.answer.specs.Answer.{gives, refused}
 use Rattle.answer.proofs.Laws.{or_given, or_later, answer_given, answer_refused}
 use Rattle.sums.proofs.TableLaws.{length_table, is_table, one_filled}
 use Rattle.sums.proofs.SumLaws.{sum_most}
 use Rattle.sums.proofs.SignedLaws.{abs_difference}
+use Rattle.sums.proofs.SampleLaws.{value_read}
 use Rattle.plane.specs.Blocks.{block_side}
 use Rattle.hadamard.specs.Transform.{entry_most, transformed, after_transform}
 use Rattle.hadamard.specs.Steps.{AllWithin}
@@ -47,6 +49,14 @@ module _ (first second : List ℕ) where
 
   pub subtracted_all : (i : ℕ) (l : List ℤ) → Subtracted first second i l → block_size ≤ i → l ≡ differences first second
   subtracted_all i l p h = is_table (pos 0) block_size (difference first second) l p.size (λ t t<. p.done t (omega arith))
+
+-- a place more: the gap of two samples that were read
+module _ {A : Type 0} {value : A → ℕ} {values : List A → List ℕ} (each : (s : List A) → values s ≡ map value s) where
+  pub subtracted_gap : {first second : List A} {i : ℕ} {l : List ℤ} {x y : A} → Subtracted (values first) (values second) i l → (z : ℤ) → z ≡ pos (value x) -ℤ pos (value y)
+      → i < block_size → length first ≡ block_size → length second ≡ block_size → x ≡ get_or first i x → y ≡ get_or second i y
+      → Subtracted (values first) (values second) (i + 1) (set l i z)
+  subtracted_gap {first} {second} {i} {l} {x} {y} p z d h f s e k =
+      subtracted_more (values first) (values second) i l z p h (d ∙ rw (value_read each first i x (omega arith) e, value_read each second i y (omega arith) k))
 
 -- ---- the transform, the sum and the SATD
 

@@ -1,15 +1,20 @@
--- Each public contract allows one answer alone. Assumes nothing.
-use mathlib.Core.Path.{sym, ◌∙◌}
+-- The public contract allows one answer alone, at every type that is a `Sample`, and so at both words. Assumes nothing.
+use Rattle.std.proofs.Common.{sym, ◌∙◌}
 use Rattle.answer.specs.Unique.{OneOutcome}
 use Rattle.answer.specs.declared.Whole.{Whole}
 use Rattle.answer.proofs.Laws.{whole_only}
-use Rattle.satd.proofs.satd8x8.Kinds as satd8x8-kinds
-use Rattle.satd.proofs.satd8x8.Reads as satd8x8-reads
-use Rattle.satd.proofs.deep.satd8x8.Kinds as deep-kinds
-use Rattle.satd.proofs.deep.satd8x8.Reads as deep-reads
+use Rattle.sums.proofs.Words.{SampleType, byte_type, word_type}
+use Rattle.satd.proofs.satd8x8.Kinds as kinds
+use Rattle.satd.proofs.satd8x8.Reads as reads
 
-pub satd8x8_unique : OneOutcome 2 satd8x8-kinds.ps satd8x8-kinds.r Whole (λ κs r e. r) satd8x8-reads.Post
-satd8x8_unique κs a r r' e e' p q = whole_only r r' (p ∙ sym q)
+abbrev OneAt : SampleType → Type 0
+OneAt w = OneOutcome 3 (kinds.ps w.row w.laws w.copy) (kinds.r w.row w.laws w.copy) Whole (λ κs r e. r) (reads.Post w.row w.laws w.copy w.Sample w.Sample_dict w.Clone w.Clone_dict)
 
-pub deep_satd8x8_unique : OneOutcome 2 deep-kinds.ps deep-kinds.r Whole (λ κs r e. r) deep-reads.Post
-deep_satd8x8_unique κs a r r' e e' p q = whole_only r r' (p ∙ sym q)
+one_at : (w : SampleType) → OneAt w
+one_at w κs a r r' e e' p q = whole_only r r' (p ∙ sym q)
+
+pub satd8x8_unique : OneAt byte_type
+satd8x8_unique = one_at byte_type
+
+pub deep_satd8x8_unique : OneAt word_type
+deep_satd8x8_unique = one_at word_type

@@ -6,4 +6,6 @@ pub mod WrittenLaws
 pub mod PlaceLaws
 pub mod Wrote
 pub mod SignedLaws
+pub mod SampleLaws
+pub mod Words
 pub mod Unique

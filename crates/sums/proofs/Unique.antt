@@ -4,12 +4,11 @@ use lib.Ieee.{Float}
 use Rattle.answer.specs.Unique.{OneOutcome}
 use Rattle.sums.proofs.copy.Kinds as copy-kinds
 use Rattle.sums.proofs.copy.Reads as copy-reads
-use Rattle.sums.proofs.deep.copy.Kinds as deep-copy-kinds
-use Rattle.sums.proofs.deep.copy.Reads as deep-copy-reads
-use Rattle.sums.proofs.distance.Kinds as distance-kinds
-use Rattle.sums.proofs.distance.Reads as distance-reads
-use Rattle.sums.proofs.deep.distance.Kinds as deep-distance-kinds
-use Rattle.sums.proofs.deep.distance.Reads as deep-distance-reads
+use Rattle.sums.proofs.byte.U8Sample.distance.Kinds as distance-kinds
+use Rattle.sums.proofs.byte.U8Sample.distance.Reads as distance-reads
+use Rattle.sums.proofs.word.U16Sample.distance.Kinds as deep-distance-kinds
+use Rattle.sums.proofs.word.U16Sample.distance.Reads as deep-distance-reads
+use Rattle.sums.proofs.Words.{SampleType, byte_type, word_type}
 use Rattle.sums.proofs.lesser.Kinds as lesser-kinds
 use Rattle.sums.proofs.lesser.Reads as lesser-reads
 use Rattle.sums.proofs.quotient.Kinds as quotient-kinds
@@ -27,8 +26,17 @@ quotient_unique κs a r r' e e' p q = p ∙ sym q
 pub lesser_unique : OneOutcome 0 lesser-kinds.ps lesser-kinds.r ℕ (λ κs r e. r) lesser-reads.Post
 lesser_unique κs a r r' e e' p q = p ∙ sym q
 
-pub copy_unique : OneOutcome 2 copy-kinds.ps copy-kinds.r (List ℕ) (λ κs r e. e.0.now) copy-reads.Post
-copy_unique κs a r r' e e' p q = p ∙ sym q
+-- of every type that is a `Sample`, and so of both words
+abbrev CopyAt : SampleType → Type 0
+CopyAt w =
+    OneOutcome 3 (copy-kinds.ps w.row w.laws w.copy) (copy-kinds.r w.row w.laws w.copy) (List ℕ) (λ κs r e. w.Sample.values e.0.now)
+    (copy-reads.Post w.row w.laws w.copy w.Sample w.Sample_dict w.Clone w.Clone_dict)
 
-pub deep_copy_unique : OneOutcome 2 deep-copy-kinds.ps deep-copy-kinds.r (List ℕ) (λ κs r e. e.0.now) deep-copy-reads.Post
-deep_copy_unique κs a r r' e e' p q = p ∙ sym q
+copy_at : (w : SampleType) → CopyAt w
+copy_at w κs a r r' e e' p q = p ∙ sym q
+
+pub copy_unique : CopyAt byte_type
+copy_unique = copy_at byte_type
+
+pub deep_copy_unique : CopyAt word_type
+deep_copy_unique = copy_at word_type

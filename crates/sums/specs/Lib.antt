@@ -6,3 +6,5 @@ pub mod Any
 pub mod Places
 pub mod Written
 pub mod Needs
+pub mod Samples
+pub mod Room
