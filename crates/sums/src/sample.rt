@@ -1,5 +1,5 @@
 // A sample stands in a byte, or in a word of 16 bits. What is done with samples of either is written once, over this trait.
-ghost use Rattle.std.specs.Prelude.{◌≡◌, ◌≤◌, ℕ, List, map, slice_index};
+ghost use Rattle.std.specs.Prelude.{◌≡◌, ◌≤◌, ◌+◌, ◌%◌, ℕ, List, map, slice_index};
 ghost use Rattle.sums.specs.Needs.{word_most};
 ghost use Rattle.sums.specs.Room.{TakesTwoBytes};
 ghost use Rattle.sums.specs.Sums.{apart};
@@ -19,10 +19,10 @@ pub trait Sample: Copy {
         ensures is { result ≡ value self }
         ensures at_most { result ≤ most };
 
-    // The sample that is this number. It takes two bytes at most, so that an array of such samples has room in memory.
+    // The sample that is this number, or of one above the largest the low bits. It takes two bytes at most, so that an array of such
+    // samples has room in memory.
     fn narrowed(v: u32) -> Self
-        requires { v ≤ most }
-        ensures is { value result ≡ v }
+        ensures is { value result ≡ v % (most + 1) }
         ensures size { TakesTwoBytes Self.row };
 
     // How far two samples lie apart.
