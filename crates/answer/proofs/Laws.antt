@@ -104,11 +104,11 @@ answer_same fault a b e = by_case (eqb fault 0) (λ t. e (eqb-true fault 0 t))
     by_case false e = refl
 
 -- a refusal has a number of its own, and 0 is none's
-by_number : ℕ → Refusal
+pub by_number : ℕ → Refusal
 by_number n =
     cond (eqb n 1) BadPlane (cond (eqb n 2) PastSamples (cond (eqb n 3) SizesDiffer (cond (eqb n 4) NoRoom (cond (eqb n 5) BadDepth (cond (eqb n 6) BadSize (cond (eqb n 7) BadNumber (cond (eqb n 8) BadLength (cond (eqb n 9) Stop (cond (eqb n 10) BadList (cond (eqb n 11) BadState (cond (eqb n 12) NoMark (cond (eqb n 13) BadCut (cond (eqb n 14) NotRising (cond (eqb n 15) LogRoom (cond (eqb n 16) TooLarge (cond (eqb n 17) TooManyRows (cond (eqb n 18) RowsLeft (NoBlock))))))))))))))))))
 
-by_number_of : (e : Refusal) → by_number (number_of e) ≡ e
+pub by_number_of : (e : Refusal) → by_number (number_of e) ≡ e
 unfolding by_number
 by_number_of BadPlane = refl
 by_number_of PastSamples = refl
