@@ -1,20 +1,21 @@
 -- Sums of distances by their low and their high bytes, and the bits of two rows together. Assumes nothing.
-use mathlib.Core.Bool.{Bool, ◌||◌}
+use mathlib.Core.Bool.{Bool, true, false, ◌||◌}
 use mathlib.Core.List.{List}
-use mathlib.Core.Path.{◌≡◌, sym, ap, ◌∙◌}
+use mathlib.Core.Path.{◌≡◌, refl, sym, ap, ◌∙◌}
 use Prim.Native.Nat.{ℕ, ◌+◌, ◌*◌, ◌/◌, ◌%◌, ◌≤◌, ◌<◌, ◌^◌}
 use native.Mathlib.Omega.{arith}
+use borrow.Author.Tests.{lt-leb, eqb-true}
 use lib.Bits.{bit_or}
 use lib.Dec.{leb}
 use lib.ListN.{length, get_or}
 use Rattle.plane.specs.declared.Plane.{Plane}
-use Rattle.plane.specs.Planes.{row_of, too_large}
+use Rattle.plane.specs.Planes.{byte, suits, row_of, too_large}
 use Rattle.plane.proofs.PlaneLaws.{Pair, length_row}
 use Rattle.plane.proofs.SampleLaws.{Reach, reach_or, large_in, row_large_lem}
 use Rattle.sums.specs.Any.{any_below}
-use Rattle.sums.specs.Needs.{word_most}
+use Rattle.sums.specs.Needs.{byte_most, word_most}
 use Rattle.sums.specs.Sums.{sum_below}
-use Rattle.sums.proofs.AnyLaws.{any_or, any_ext, any_cut}
+use Rattle.sums.proofs.AnyLaws.{any_none, any_or, any_ext, any_cut}
 use Rattle.sums.proofs.SumLaws.{NextSum, next_sum, sum_split}
 use Rattle.sad.specs.Needs.{gap_at, gaps_from, large_from}
 
@@ -37,6 +38,14 @@ module _ (a b : List ℕ) (at n : ℕ) (h : n ≤ 256) where
   pub high_next : ((i : ℕ) → get_or a i 0 ≤ word_most) → ((i : ℕ) → get_or b i 0 ≤ word_most)
       → (i sum part : ℕ) → i < n → sum ≡ sum_below i (high_at a b at) → part ≡ high_at a b at i → NextSum (2 ^ 16) i sum part (high_at a b at)
   high_next l m = next_sum 255 n (2 ^ 16) (high_at a b at) (λ i _. omega (arith, l (at + i), m (at + i))) (omega arith)
+
+-- no byte is too large for its depth
+pub none_large : (a b : List ℕ) → ((i : ℕ) → get_or a i 0 ≤ byte_most) → ((i : ℕ) → get_or b i 0 ≤ byte_most) → (n depth : ℕ) → suits byte depth ≡ true
+    → leb (2 ^ depth) 0 ≡ any_below n (large_from a b 0 depth)
+none_large a b l m n depth e =
+    let small : (x : ℕ) → x ≤ byte_most → leb (2 ^ 8) x ≡ false = λ x h. lt-leb (2 ^ 8) x (omega arith) in
+    rw (eqb-true depth 8 e)
+    (small 0 (omega arith) ∙ sym (any_none n (large_from a b 0 8) (λ i. rw (small _ (l (0 + i)), small _ (m (0 + i))) refl)))
 
 -- a row's bits gain those of a part from a place on
 pub reach_part : (a b : List ℕ) (bits at part n : ℕ) → Reach bits at (large_from a b 0) → ((m : ℕ) → leb (2 ^ m) part ≡ any_below n (large_from a b at m))
