@@ -3,16 +3,16 @@
 #![tactic(auto)]
 
 ghost use Rattle.std.specs.Prelude.{◌||◌, ◌≡◌, ℕ, ◌+◌, ◌*◌, ◌≤◌, ◌<◌, ◌^◌, length, get_or};
-ghost use Rattle.answer.specs.Answer.{whole_answer, answered};
+ghost use Rattle.answer.specs.Answer.{answer_of, answered};
 ghost use Rattle.answer.specs.Refusal.{refusal};
 ghost use Rattle.plane.specs.Planes.{byte, max_side, shapes_fault, too_large};
 ghost use Rattle.sad.specs.Difference.{plane_sad};
 ghost use Rattle.strips.specs.Carry.{blocks_along};
 ghost use Rattle.strips.specs.Needs.{Sound, Taken, held};
 ghost use Rattle.strips.specs.Rows.{laid, room_long, rows_laid, blocks_rise, blocks_costs, held_row, held_rows};
-ghost use Rattle.strips.specs.Strips.{kept, strip, start_of, start_after, add_of, add_after, end_of, end_answer};
+ghost use Rattle.strips.specs.Strips.{kept, strip, start_of, start_after, add_of, add_after, end_of};
 
-use answer::Whole;
+use answer::Refusal;
 use carry::Carry;
 use plane::{BLOCK_SIDE, Plane};
 
@@ -28,29 +28,19 @@ pub struct Totals {
     pub importance: u64,
 }
 
-// The end's answer: what was measured, or a refusal's number.
-#[derive(Clone, Copy)]
-pub enum Ended {
-    Measured(Totals),
-    Refused(u32),
-}
-
 // ---- the start
 
 // Begins a pair of frames of a whole size: 0, and the carry. A refused call writes nothing.
-pub fn start(depth: u64, width: usize, height: usize, carry: &mut [u64]) -> Whole
-    ensures result_value { whole_answer result ≡ start_of depth width height carry.old }
+pub fn start(depth: u64, width: usize, height: usize, carry: &mut [u64]) -> Result<u64, Refusal>
+    ensures result_value { answer_of result ≡ start_of depth width height carry.old }
     ensures carry_after { carry.new ≡ start_after depth width height carry.old }
 {
     if carry.len() != carry::CARRY {
-        return Whole::Refused(11);
+        return Err(Refusal::BadState);
     }
-    let fault = plane::depth_fault(depth);
-    if fault != 0 {
-        return Whole::Refused(fault);
-    }
-    if plane::bad_side(width) | plane::bad_side(height) {
-        return Whole::Refused(1);
+    plane::depth_fault(depth)?;
+    if plane::bad_side(width) || plane::bad_side(height) {
+        return Err(Refusal::BadPlane);
     }
     let begun = Carry {
         width,
@@ -61,7 +51,7 @@ pub fn start(depth: u64, width: usize, height: usize, carry: &mut [u64]) -> Whol
         importance: 0,
     };
     carry::put_carry(carry, begun);
-    Whole::Number(0)
+    Ok(0)
 }
 
 // ---- the rows
@@ -201,27 +191,17 @@ pub fn add(
 // ---- the end
 
 // The number of blocks, the difference and the importance total, once all rows have come. Without a block it is refused from the first row on.
-pub fn end(carry: &[u64]) -> Ended
-    ensures { end_answer result ≡ end_of carry.now }
+pub fn end(carry: &[u64]) -> Result<Totals, Refusal>
+    ensures { answer_of result ≡ end_of carry.now }
 {
-    let unfit = carry::carry_fault(carry);
-    if unfit != 0 {
-        return Ended::Refused(unfit);
-    }
-    let c = carry::lent_carry(carry);
-    let fault = plane::depth_fault(c.depth);
-    if fault != 0 {
-        return Ended::Refused(fault);
-    }
+    let c = carry::fit_carry(carry)?;
+    plane::depth_fault(c.depth)?;
     let blocks = carry::blocks(c);
-    let none = plane::block_fault(blocks);
-    if none != 0 {
-        return Ended::Refused(none);
-    }
+    plane::block_fault(blocks)?;
     if c.rows < c.height {
-        return Ended::Refused(18);
+        return Err(Refusal::RowsLeft);
     }
-    Ended::Measured(Totals {
+    Ok(Totals {
         blocks: blocks as u64,
         difference: c.difference,
         importance: c.importance,

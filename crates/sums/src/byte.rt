@@ -21,7 +21,7 @@ impl Sample for u8 {
     }
 
     fn narrowed(v: u32) -> u8 {
-        v as u8
+        (v & 0xff) as u8
     }
 
     // A signed difference, and all of it in 16 bits, since the compiler turns this form into the fewest vector instructions.

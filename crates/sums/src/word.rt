@@ -21,7 +21,7 @@ impl Sample for u16 {
     }
 
     fn narrowed(v: u32) -> u16 {
-        v as u16
+        (v & 0xffff) as u16
     }
 
     // In this form the compiler takes eight distances by three vector instructions, and nothing is widened.
