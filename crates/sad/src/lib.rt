@@ -17,15 +17,9 @@ mod word;
 pub use row::{Row, RowSad};
 
 // The sum over the visible samples of two planes whose shapes are not refused, or 16 where a sample is too large.
-fn sad_plane<S: RowSad>(
-    depth: u64,
-    p: Plane,
-    a: &[S],
-    q: Plane,
-    b: &[S],
-) -> Result<u64, Refusal>
+fn sad_plane<S: RowSad>(depth: u64, p: Plane, a: &[S], q: Plane, b: &[S]) -> Result<u64, Refusal>
     requires depth_value { suits S.Depths.word depth ≡ true }
-    requires sizes { sizes_fault p (length a.now) q (length b.now) ≡ 0 }
+    requires sizes { sizes_fault p (length (S.Sample.values a.now)) q (length (S.Sample.values b.now)) ≡ 0 }
     ensures { answer_of result ≡ answered (refusal 16 (too_large depth p (S.Sample.values a.now) || too_large depth q (S.Sample.values b.now))) (plane_sad p (S.Sample.values a.now) q (S.Sample.values b.now)) }
 {
     let mut total: u64 = 0;

@@ -18,8 +18,8 @@ pub struct Row {
 pub trait RowSad: Depths {
     // Two rows of one length.
     fn row_sad(a: &[Self], b: &[Self]) -> Row
-        requires a_len { length a.now ≡ length b.now }
-        requires a_len_bound { length a.now ≤ max_side }
-        ensures sum_value { result.sum ≡ sum_below (length a.now) (gap_at (Self.Sample.values a.now) (Self.Sample.values b.now)) }
-        ensures by_index { (m : ℕ) → suits Self.Depths.word m ≡ true → leb (2 ^ m) result.bits ≡ any_below (length a.now) (large_from (Self.Sample.values a.now) (Self.Sample.values b.now) 0 m) };
+        requires a_len { length (Self.Sample.values a.now) ≡ length (Self.Sample.values b.now) }
+        requires a_len_bound { length (Self.Sample.values a.now) ≤ max_side }
+        ensures sum_value { result.sum ≡ sum_below (length (Self.Sample.values a.now)) (gap_at (Self.Sample.values a.now) (Self.Sample.values b.now)) }
+        ensures by_index { (m : ℕ) → suits Self.Depths.word m ≡ true → leb (2 ^ m) result.bits ≡ any_below (length (Self.Sample.values a.now)) (large_from (Self.Sample.values a.now) (Self.Sample.values b.now) 0 m) };
 }
