@@ -1,4 +1,4 @@
--- `sad::chunks_sad` meets its contract. After c turns the sum is that of the first c chunks, which by the bounds on a sample and on a row fits.
+-- `sad::byte::chunks_sad` meets its contract. After c turns the sum is that of the first c chunks, which by the bounds on a sample and on a row fits.
 -- Assumes nothing.
 use mathlib.Core.Path.{◌≡◌, ap}
 use Prim.Native.Nat.{ℕ, ◌+◌, ◌*◌, ◌^◌, ◌≤◌, ◌<◌}
@@ -10,7 +10,7 @@ use Rattle.sums.specs.Needs.{byte_most}
 use Rattle.sums.proofs.SumLaws.{sum_none, sum_to}
 use Rattle.sad.specs.Needs.{gaps_from}
 use Rattle.sad.proofs.SadLaws.{chunks_next}
-use Rattle.sad.proofs.chunks_sad.Goals as goal
+use Rattle.sad.proofs.byte.chunks_sad.Goals as goal
 
 pub loop-c-init : goal.loop-c-init
 loop-c-init c = (search rules, sum_to _ _ _ _ (sum_none _) (omega arith))

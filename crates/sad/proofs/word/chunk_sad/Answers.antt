@@ -1,4 +1,4 @@
--- `sad::deep::chunk_sad` meets its contract: after i turns the sums and the bits are those of the first i pairs. Assumes nothing.
+-- `sad::word::chunk_sad` meets its contract: after i turns the sums and the bits are those of the first i pairs. Assumes nothing.
 use mathlib.Core.Path.{◌≡◌, refl, ap}
 use Prim.Native.Nat.{ℕ, ◌<◌, ◌/◌, ◌%◌, ◌^◌}
 use native.Mathlib.Omega.{arith}
@@ -7,7 +7,7 @@ use Rattle.plane.proofs.SampleLaws.{reach_none, reach_both, reach_to}
 use Rattle.sums.proofs.SumLaws.{NextSum, sum_none, sum_to}
 use Rattle.sad.specs.Needs.{large_from}
 use Rattle.sad.proofs.ByteLaws.{low_at, high_at, low_next, high_next, bytes_are}
-use Rattle.sad.proofs.deep.chunk_sad.Goals as goal
+use Rattle.sad.proofs.word.chunk_sad.Goals as goal
 
 pub loop-i-preserved : goal.loop-i-preserved
 loop-i-preserved c =

@@ -1,4 +1,4 @@
--- `sad::chunk_sad` meets its contract. After i turns the sum is that of the chunk's first i pairs, which by the bound on a sample fits. Assumes nothing.
+-- `sad::byte::chunk_sad` meets its contract. After i turns the sum is that of the chunk's first i pairs, which by the bound on a sample fits. Assumes nothing.
 use Prim.Native.Nat.{ℕ, ◌+◌, ◌^◌}
 use native.Mathlib.Omega.{arith}
 use borrow.Author.Rules.{rules}
@@ -6,7 +6,7 @@ use Rattle.sums.specs.Needs.{byte_most}
 use Rattle.sums.proofs.SumLaws.{NextSum, sum_none, sum_to}
 use Rattle.sad.specs.Needs.{gap_at}
 use Rattle.sad.proofs.SadLaws.{chunk_next}
-use Rattle.sad.proofs.chunk_sad.Goals as goal
+use Rattle.sad.proofs.byte.chunk_sad.Goals as goal
 
 pub loop-i-init : goal.loop-i-init
 loop-i-init c = (search rules, sum_none _)
