@@ -180,3 +180,9 @@ pub answer_handed : {A : Type 0} (e : Refusal) (fault : ℕ) (a : A) → number_
 answer_handed e fault a p = answer_refused _ fault a p (number_some e)
 
 pub ruleset answers = (answer_handed, answer_given)
+
+-- a lent place, where something is refused
+pub lent_stays : {A : Type 0} (fault : ℕ) (new old : A) → (fault ≡ 0 → ⊥) → old ≡ lent_after fault new old
+lent_stays fault new old h = lent_kept fault fault new old refl h
+
+pub ruleset lents = (lent_stays, lent_written, number_some)
