@@ -181,21 +181,23 @@ answer_handed e fault a p = answer_refused _ fault a p (number_some e)
 
 pub ruleset answers = (answer_handed, answer_given)
 
+is_given : {A : Type 0} → Answer A → Bool
+is_given (gives a) = true
+is_given (refused r) = false
+
 -- what answers one value tells of another: a refusal is handed on, and a value is given where nothing is refused
 pub handed_on : {A B : Type 0} (fault : ℕ) (v : A) (w : B) (n : ℕ) → refused n ≡ answered fault v → refused n ≡ answered fault w
 handed_on {A} fault v w n =
     answer_cases (λ (x : Answer A). refused n ≡ x → refused n ≡ answered fault w) fault v
     (λ z e. absurd (true≢false (sym (ap is_given e))))
     (λ h e. let same : n ≡ fault = cc in answer_refused n fault w same (λ z. h (sym same ∙ z)))
-  where
-    is_given : Answer A → Bool
-    is_given (gives a) = true
-    is_given (refused r) = false
 
 pub given_by : {A : Type 0} (fault : ℕ) (v a : A) → gives a ≡ answered fault v → (fault ≡ 0) × (a ≡ v)
 given_by {A} fault v a =
     answer_cases (λ (x : Answer A). gives a ≡ x → (fault ≡ 0) × (a ≡ v)) fault v (λ z e. (z, cc)) (λ h e. absurd (true≢false (ap is_given e)))
-  where
-    is_given : Answer A → Bool
-    is_given (gives a) = true
-    is_given (refused r) = false
+
+-- a lent place, where something is refused
+pub lent_stays : {A : Type 0} (fault : ℕ) (new old : A) → (fault ≡ 0 → ⊥) → old ≡ lent_after fault new old
+lent_stays fault new old h = lent_kept fault fault new old refl h
+
+pub ruleset lents = (lent_stays, lent_written, number_some)
