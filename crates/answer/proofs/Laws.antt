@@ -181,7 +181,7 @@ answer_handed e fault a p = answer_refused _ fault a p (number_some e)
 
 pub ruleset answers = (answer_handed, answer_given)
 
-is_given : {A : Type 0} → Answer A → Bool
+abbrev is_given : {A : Type 0} → Answer A → Bool
 is_given (gives a) = true
 is_given (refused r) = false
 
