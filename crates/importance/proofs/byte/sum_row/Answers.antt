@@ -1,11 +1,11 @@
--- `importance::sum_row` meets its contract. After i turns the sum is that of the first i samples. Assumes nothing.
+-- `importance::byte::sum_row` meets its contract. After i turns the sum is that of the first i samples. Assumes nothing.
 use Prim.Native.Nat.{◌^◌}
 use native.Mathlib.Omega.{arith}
 use borrow.Author.Rules.{rules}
 use Rattle.sums.specs.Needs.{byte_most}
 use Rattle.sums.proofs.SumLaws.{sum_none, sum_to}
 use Rattle.importance.proofs.BlockSums.{RowTurn, row_turn}
-use Rattle.importance.proofs.sum_row.Goals as goal
+use Rattle.importance.proofs.byte.sum_row.Goals as goal
 
 pub loop-i-init : goal.loop-i-init
 loop-i-init c = (search rules, sum_none _)
