@@ -1,7 +1,6 @@
 -- What the private functions leave on the way. Contracts of private functions alone cite this file; no public contract does.
 use Rattle.std.specs.Prelude.{◌≡◌, List, [], ◌∷◌, ℕ, zero, suc, ◌+◌, ◌*◌, ◌≤◌, ◌<◌, ℤ, pos, ◌+ℤ◌, ◌-ℤ◌, nat_abs, length, get_or, set}
-use Rattle.answer.specs.Refusal.{refusal}
-use Rattle.hadamard.specs.Transform.{output, entry_most, beyond_most}
+use Rattle.hadamard.specs.Transform.{output, entry_most}
 use Rattle.hadamard.specs.declared.Two.{Two}
 use Rattle.hadamard.specs.declared.Four.{Four}
 
@@ -15,11 +14,6 @@ stage_most = 2 * line_most
 
 abbrev pub out_most : ℕ
 out_most = 4 * line_most
-
--- how many entries are out of range
-unfoldable pub count_beyond : List ℤ → ℕ
-count_beyond [] = 0
-count_beyond (z ∷ l) = refusal 1 (beyond_most z) + count_beyond l
 
 -- four numbers by their places, there and back
 abbrev pub four_of : (ℕ → ℤ) → Four

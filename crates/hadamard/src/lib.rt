@@ -4,14 +4,14 @@
 #![tactic(auto)]
 
 ghost use Rattle.std.specs.Prelude.{◌≡◌, ◌+◌, ◌*◌, ◌<◌, ◌^◌, nat_abs, length};
-ghost use Rattle.answer.specs.Refusal.{refusal};
-ghost use Rattle.hadamard.specs.Transform.{output, entry_most, beyond_most, transform_fault, after_transform};
-ghost use Rattle.hadamard.specs.Steps.{count_beyond, two_of, four_of, nth, stage_of, FourWithin, line_entry, stores, lined_by, lined, all_lined_by, all_lined, LineIn, LinesIn, line_most, stage_most, out_most};
+ghost use Rattle.answer.specs.Answer.{fault_in};
+ghost use Rattle.hadamard.specs.Transform.{output, entry_most, some_beyond, transform_fault, after_transform};
+ghost use Rattle.hadamard.specs.Steps.{two_of, four_of, nth, stage_of, FourWithin, line_entry, stores, lined_by, lined, all_lined_by, all_lined, LineIn, LinesIn, line_most, stage_most, out_most};
 
-// The largest entry, and the least.
-const MOST: i32 = 65535;
+use answer::Refusal;
 
-const LEAST: i32 = -65535;
+// The largest entry, in size.
+const MOST: u32 = 65535;
 
 // Four entries of a line.
 #[derive(Clone, Copy)]
@@ -98,7 +98,7 @@ fn line4(block: &mut [i32], at: usize, step: usize)
     requires { LineIn 4 at step line_most block.old }
     ensures { block.new ≡ lined 4 at step block.old }
 {
-    let y = network(load(&block[..], at, step));
+    let y = network(load(block, at, step));
     store(block, at, step, y);
 }
 
@@ -138,7 +138,7 @@ fn stage(block: &mut [i32], at: usize, step: usize)
     requires { LineIn 4 at step stage_most block.old }
     ensures { block.new ≡ lined_by stage_of 4 at step block.old }
 {
-    let y = paired(load(&block[..], at, step));
+    let y = paired(load(block, at, step));
     store(block, at, step, y);
 }
 
@@ -163,66 +163,48 @@ fn rows(block: &mut [i32])
     stage_rows(block);
 }
 
-// 1 for an entry out of range, else 0.
-fn beyond(v: i32) -> u32
-    ensures { result ≡ refusal 1 (beyond_most v) }
+// Whether an entry is out of range. It looks at every entry, since the compiler makes vector code of a loop that is not left early.
+fn some_beyond(block: &[i32]) -> bool
+    ensures { result ≡ some_beyond block.now }
 {
-    if v < LEAST {
-        return 1;
-    }
-    if MOST < v { 1 } else { 0 }
+    block
+        .iter()
+        .fold(false, |some, v| some | (v.unsigned_abs() > MOST))
 }
 
-// How many entries are out of range. It looks at every entry, since the compiler makes vector code of a loop that is
-// not left early.
-fn count_beyond(block: &[i32]) -> u32
-    requires { length block.now < 2 ^ 32 }
-    ensures { result ≡ count_beyond block.now }
-{
-    let mut n = 0;
-    for i in 0..block.len() {
-        n += beyond(block[i]);
-    }
-    n
-}
-
-// The refusal of a list as n rows of n entries, or 0.
-fn fault(block: &[i32], n: usize) -> u32
+// The refusal of a list as n rows of n entries.
+fn fault(block: &[i32], n: usize) -> Result<(), Refusal>
     requires { n * n < 2 ^ 32 }
-    ensures { result ≡ transform_fault n block.now }
+    ensures { fault_in result ≡ transform_fault n block.now }
 {
     if block.len() != n * n {
-        return 2;
+        return Err(Refusal::PastSamples);
     }
-    if count_beyond(block) != 0 {
-        return 10;
+    if some_beyond(block) {
+        return Err(Refusal::BadList);
     }
-    0
+    Ok(())
 }
 
-// The transform of 16 entries, four rows of four, in their place: 0, or the number of the refusal.
-pub fn hadamard4x4(block: &mut [i32]) -> u32
-    ensures value { result ≡ transform_fault 4 block.old }
+// The transform of 16 entries, four rows of four, in their place.
+#[tactic(auto, using(answer::proofs::Laws::lents))]
+pub fn hadamard4x4(block: &mut [i32]) -> Result<(), Refusal>
+    ensures value { fault_in result ≡ transform_fault 4 block.old }
     ensures block_after { block.new ≡ after_transform 4 block.old }
 {
-    let refused = fault(&block[..], 4);
-    if refused != 0 {
-        return refused;
-    }
+    fault(block, 4)?;
     line16(block, 1);
-    0
+    Ok(())
 }
 
-// The transform of 64 entries, eight rows of eight, in their place: 0, or the number of the refusal.
-pub fn hadamard8x8(block: &mut [i32]) -> u32
-    ensures value { result ≡ transform_fault 8 block.old }
+// The transform of 64 entries, eight rows of eight, in their place.
+#[tactic(auto, using(answer::proofs::Laws::lents))]
+pub fn hadamard8x8(block: &mut [i32]) -> Result<(), Refusal>
+    ensures value { fault_in result ≡ transform_fault 8 block.old }
     ensures block_after { block.new ≡ after_transform 8 block.old }
 {
-    let refused = fault(&block[..], 8);
-    if refused != 0 {
-        return refused;
-    }
+    fault(block, 8)?;
     columns(block);
     rows(block);
-    0
+    Ok(())
 }
