@@ -4,9 +4,12 @@
 #![tactic(auto)]
 
 ghost use Rattle.std.specs.Prelude.{◌≡◌, ◌+◌, ◌*◌, ◌<◌, ◌^◌, nat_abs, length};
+ghost use Rattle.answer.specs.Answer.{fault_in};
 ghost use Rattle.answer.specs.Refusal.{refusal};
 ghost use Rattle.hadamard.specs.Transform.{output, entry_most, beyond_most, transform_fault, after_transform};
 ghost use Rattle.hadamard.specs.Steps.{count_beyond, two_of, four_of, nth, stage_of, FourWithin, line_entry, stores, lined_by, lined, all_lined_by, all_lined, LineIn, LinesIn, line_most, stage_most, out_most};
+
+use answer::Refusal;
 
 // The largest entry, and the least.
 const MOST: i32 = 65535;
@@ -186,43 +189,37 @@ fn count_beyond(block: &[i32]) -> u32
     n
 }
 
-// The refusal of a list as n rows of n entries, or 0.
-fn fault(block: &[i32], n: usize) -> u32
+// The refusal of a list as n rows of n entries.
+fn fault(block: &[i32], n: usize) -> Result<(), Refusal>
     requires { n * n < 2 ^ 32 }
-    ensures { result ≡ transform_fault n block.now }
+    ensures { fault_in result ≡ transform_fault n block.now }
 {
     if block.len() != n * n {
-        return 2;
+        return Err(Refusal::PastSamples);
     }
     if count_beyond(block) != 0 {
-        return 10;
+        return Err(Refusal::BadList);
     }
-    0
+    Ok(())
 }
 
-// The transform of 16 entries, four rows of four, in their place: 0, or the number of the refusal.
-pub fn hadamard4x4(block: &mut [i32]) -> u32
-    ensures value { result ≡ transform_fault 4 block.old }
+// The transform of 16 entries, four rows of four, in their place.
+pub fn hadamard4x4(block: &mut [i32]) -> Result<(), Refusal>
+    ensures value { fault_in result ≡ transform_fault 4 block.old }
     ensures block_after { block.new ≡ after_transform 4 block.old }
 {
-    let refused = fault(&block[..], 4);
-    if refused != 0 {
-        return refused;
-    }
+    fault(&block[..], 4)?;
     line16(block, 1);
-    0
+    Ok(())
 }
 
-// The transform of 64 entries, eight rows of eight, in their place: 0, or the number of the refusal.
-pub fn hadamard8x8(block: &mut [i32]) -> u32
-    ensures value { result ≡ transform_fault 8 block.old }
+// The transform of 64 entries, eight rows of eight, in their place.
+pub fn hadamard8x8(block: &mut [i32]) -> Result<(), Refusal>
+    ensures value { fault_in result ≡ transform_fault 8 block.old }
     ensures block_after { block.new ≡ after_transform 8 block.old }
 {
-    let refused = fault(&block[..], 8);
-    if refused != 0 {
-        return refused;
-    }
+    fault(&block[..], 8)?;
     columns(block);
     rows(block);
-    0
+    Ok(())
 }

@@ -2,13 +2,13 @@
 #![tactic(auto)]
 
 ghost use Rattle.std.specs.Prelude.{◌≡◌, ◌*◌, ◌<◌, ◌^◌, nat_abs, pos, ◌-ℤ◌, length};
-ghost use Rattle.answer.specs.Answer.{whole_answer};
+ghost use Rattle.answer.specs.Answer.{answer_of};
 ghost use Rattle.hadamard.specs.Transform.{entry_most};
 ghost use Rattle.hadamard.specs.Steps.{AllWithin};
 ghost use Rattle.plane.specs.Blocks.{block_side};
 ghost use Rattle.satd.specs.Satd.{block_size, differences, abs_sum, satd_of};
 
-use answer::Whole;
+use answer::Refusal;
 use sums::Sample;
 
 // How many samples a block has.
@@ -47,21 +47,21 @@ fn total(block: &[i32]) -> u32
 }
 
 // The SATD of two blocks: the differences are transformed, their absolute values added, and the sum over 8 is taken to the
-// nearest. Differences of samples are never out of the transform's range, so its answer is not looked at.
-pub fn satd8x8<S: Sample>(first: &[S], second: &[S]) -> Whole
-    ensures { whole_answer result ≡ satd_of (S.values first.now) (S.values second.now) }
+// nearest. Differences of samples are never out of the transform's range.
+pub fn satd8x8<S: Sample>(first: &[S], second: &[S]) -> Result<u64, Refusal>
+    ensures { answer_of result ≡ satd_of (S.values first.now) (S.values second.now) }
 {
     if first.len() != SAMPLES {
-        return Whole::Refused(2);
+        return Err(Refusal::PastSamples);
     }
     if second.len() != SAMPLES {
-        return Whole::Refused(2);
+        return Err(Refusal::PastSamples);
     }
     S::bounded(first);
     S::bounded(second);
     let mut block = [0i32; SAMPLES];
     subtract(first, second, &mut block);
-    hadamard::hadamard8x8(&mut block);
+    hadamard::hadamard8x8(&mut block).unwrap();
     let sum = total(&block);
-    Whole::Number(((sum + 4) / 8) as u64)
+    Ok(((sum + 4) / 8) as u64)
 }

@@ -2,7 +2,7 @@
 -- 16 rows. Assumes nothing.
 use mathlib.Core.Path.{◌≡◌, sym, ap, ◌∙◌}
 use native.Mathlib.Omega.{arith}
-use Rattle.answer.proofs.Laws.{lent_written, lent_kept}
+use Rattle.answer.proofs.Laws.{lent_written, lent_kept, number_some}
 use Rattle.hadamard.specs.Transform.{output, entry_most, transform_fault, transformed}
 use Rattle.hadamard.specs.Steps.{all_lined, LineIn}
 use Rattle.hadamard.proofs.Grid.{columns_in, rows_in, grid}
@@ -11,15 +11,15 @@ use Rattle.hadamard.proofs.Range.{unrefused}
 use Rattle.hadamard.proofs.Square.{square_line, line_square}
 use Rattle.hadamard.proofs.hadamard8x8.Goals as goal
 
-pub returns-then-refused-ne0 : goal.returns-then-refused-ne0
-returns-then-refused-ne0 c =
+pub returns-in_err-fault-clause-block_after : goal.returns-in_err-fault-clause-block_after
+returns-in_err-fault-clause-block_after c =
     let l = c.args.block.now in
-    record { value = c.fault-refused.ensures; block_after = lent_kept c.fault-refused.result (transform_fault 8 l) (transformed 8 l) l c.fault-refused.ensures c.if-refused-ne0.true }
+    lent_kept _ (transform_fault 8 l) (transformed 8 l) l c.in_err-fault.ensures (number_some _)
 
 pub columns-requires : goal.columns-requires
 columns-requires c =
     -- past the test the list is not refused
-    let free : transform_fault 8 c.args.block.now ≡ 0 = sym c.fault-refused.ensures ∙ c.if-refused-ne0.false in
+    let free : transform_fault 8 c.args.block.now ≡ 0 = sym c.in_ok-fault.ensures in
     let line : LineIn 64 0 1 entry_most c.args.block.now = let l = c.args.block.now in
     let f = unrefused 8 l free in
     square_line 3 (omega arith) l f.0 entry_most f.1 in
@@ -27,7 +27,7 @@ columns-requires c =
 
 pub rows-requires : goal.rows-requires
 rows-requires c =
-    let free : transform_fault 8 c.args.block.now ≡ 0 = sym c.fault-refused.ensures ∙ c.if-refused-ne0.false in
+    let free : transform_fault 8 c.args.block.now ≡ 0 = sym c.in_ok-fault.ensures in
     let line : LineIn 64 0 1 entry_most c.args.block.now = let l = c.args.block.now in
     let f = unrefused 8 l free in
     square_line 3 (omega arith) l f.0 entry_most f.1 in
@@ -36,7 +36,7 @@ rows-requires c =
 
 pub returns : goal.returns
 returns c =
-    let free : transform_fault 8 c.args.block.now ≡ 0 = sym c.fault-refused.ensures ∙ c.if-refused-ne0.false in
+    let free : transform_fault 8 c.args.block.now ≡ 0 = sym c.in_ok-fault.ensures in
     let line : LineIn 64 0 1 entry_most c.args.block.now = let l = c.args.block.now in
     let f = unrefused 8 l free in
     square_line 3 (omega arith) l f.0 entry_most f.1 in
