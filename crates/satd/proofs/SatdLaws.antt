@@ -1,6 +1,6 @@
 -- The SATD's numbers over the largest sample k: no difference is out of the transform's range where k is at most 65,535, and the SATD is at
 -- most 512 times k. So a u32 holds it, and the sum before the division, for samples of 8 and of 16 bits. Assumes nothing.
-use mathlib.Core.Path.{◌≡◌, refl, ap, ◌∙◌}
+use mathlib.Core.Path.{◌≡◌, refl, sym, ap, ◌∙◌}
 use mathlib.Core.List.{List}
 use Prim.Native.Nat.{ℕ, ◌+◌, ◌*◌, ◌/◌, ◌≤◌, ◌<◌}
 use native.Mathlib.Omega.{arith}
@@ -15,7 +15,7 @@ use Rattle.sums.proofs.SumLaws.{sum_most}
 use Rattle.sums.proofs.SignedLaws.{abs_difference}
 use Rattle.sums.proofs.SampleLaws.{value_read}
 use Rattle.plane.specs.Blocks.{block_side}
-use Rattle.hadamard.specs.Transform.{entry_most, transformed, after_transform}
+use Rattle.hadamard.specs.Transform.{entry_most, transform_fault, transformed, after_transform}
 use Rattle.hadamard.specs.Steps.{AllWithin}
 use Rattle.hadamard.proofs.Square.{length_transformed, transformed_within}
 use Rattle.hadamard.proofs.Range.{table_within, none_beyond, within_more, accepted}
@@ -88,12 +88,19 @@ module _ (k : ℕ) (first second : List ℕ) (p : (i : ℕ) → get_or first i 0
   unfolding satd_value
   satd_most = omega (arith, sum_at_most)
 
-  -- the transform does not refuse the differences, which are those of a list d
+  -- the differences, as a list d: the transform does not refuse them
+  differences_fine : k ≤ entry_most → (0 ≡ transform_fault block_side (differences first second)) × (transformed block_side (differences first second) ≡ after_transform block_side (differences first second))
+  differences_fine h =
+      accepted block_side (differences first second) (length_table block_size (difference first second))
+      (none_beyond (differences first second) (within_more k entry_most (differences first second) h differences_within))
+
+  pub unrefused : k ≤ entry_most → (d : List ℤ) → d ≡ differences first second → transform_fault block_side d ≡ 0
+  unrefused h d e = rw e (sym (differences_fine h).0)
+
+  -- and what it leaves of them
   pub left : k ≤ entry_most → (d x : List ℤ) → d ≡ differences first second → x ≡ after_transform block_side d → Left first second x
   left h d x e f =
-      let in-range = none_beyond (differences first second) (within_more k entry_most (differences first second) h differences_within) in
-      let changed = (accepted block_side (differences first second) (length_table block_size (difference first second)) in-range).1 in
-      rw (f, e, ← changed)
+      rw (f, e, ← (differences_fine h).1)
       (record {
         is = refl;
         size = length_transformed block_side (differences first second);

@@ -1,8 +1,9 @@
 -- `satd::satd8x8` meets its contract: differences of samples are within the transform's range, so that it is not refused, and the sum of its
 -- entries fits. Assumes nothing.
 use Rattle.std.proofs.Common.{sym, ◌∙◌, arith}
+use Rattle.answer.proofs.Laws.{fault_ok}
 use Rattle.sums.proofs.SampleLaws.{length_values}
-use Rattle.satd.proofs.SatdLaws.{first_refused, second_refused, Left, left, left_satd}
+use Rattle.satd.proofs.SatdLaws.{first_refused, second_refused, Left, left, left_satd, unrefused}
 use Rattle.satd.proofs.satd8x8.Given as given
 use Rattle.satd.proofs.satd8x8.Goals as goal
 use Rattle.satd.proofs.satd8x8.Goals.{After-hadamard8x8}
@@ -20,6 +21,11 @@ returns-then-second-ne-SAMPLES g c =
 -- what the transform leaves
 changed : (g : given.Over) (c : After-hadamard8x8 g) → let values = g.S.Sample.values in Left (values c.args.first.now) (values c.args.second.now) c.hadamard8x8.new.block
 changed g c = left g.S.Sample.most _ _ c.bounded.ensures c.bounded-2.ensures g.met.S.Sample.narrow _ _ c.subtract.ensures c.hadamard8x8.ensures.block_after
+
+pub unwrap-requires : goal.unwrap-requires
+unwrap-requires g c =
+    fault_ok c.hadamard8x8.result
+    (c.hadamard8x8.ensures.value ∙ unrefused g.S.Sample.most _ _ c.bounded.ensures c.bounded-2.ensures g.met.S.Sample.narrow _ c.subtract.ensures)
 
 pub total-sum-requires : goal.total-sum-requires
 total-sum-requires g c =
