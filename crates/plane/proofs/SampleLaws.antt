@@ -226,3 +226,10 @@ bytes_refused depth p a q b l m r f e depth_is = go (eqb r 0) (eqb-true r 0) (eq
         let s = depth_is (sym none) in
         or_later r _ _ none (rw (bytes_pass depth p a s l, bytes_pass depth q b s m) (is refl))
     go false is isn't = or_given r _ _ e (isn't refl)
+
+-- two planes that are not refused together are not refused alone
+pub each_passes : (p : Plane) (n : ℕ) (q : Plane) (m : ℕ) → sizes_fault p n q m ≡ 0 → (plane_fault p n ≡ 0) × (plane_fault q m ≡ 0)
+unfolding sizes_fault
+each_passes p n q m e =
+    let first = or_none (plane_fault p n) _ e in
+    (first.0, (or_none (plane_fault q m) _ first.1).0)

@@ -14,7 +14,7 @@ mod depths;
 mod samples;
 
 pub use depths::Depths;
-pub use samples::{reaches, rows_large, sample_fault};
+pub use samples::{pair_fault, reaches, rows_large, sample_fault};
 
 // The largest side, of a plane as of a resolution.
 const MAX_SIDE: usize = 8192;
@@ -23,7 +23,7 @@ const MAX_SIDE: usize = 8192;
 pub const BLOCK_SIDE: usize = 8;
 
 // A plane over lent samples: sample (x, y) is at origin + y * stride + x.
-#[derive(Clone, Copy)]
+#[derive(Clone, Copy, Debug, PartialEq, Eq)]
 pub struct Plane {
     pub width: usize,
     pub height: usize,
@@ -50,10 +50,8 @@ pub fn bad_side(n: usize) -> bool
 fn strides_fit(y: usize, stride: usize, room: usize) -> bool
     ensures { result ≡ leb (y * stride) room }
 {
-    if y < 65536 {
-        if stride < 0x1_0000_0000_0000 {
-            return y * stride <= room;
-        }
+    if y < 65536 && stride < 0x1_0000_0000_0000 {
+        return y * stride <= room;
     }
     if y == 0 {
         return true;

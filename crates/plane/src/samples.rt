@@ -1,8 +1,8 @@
 // A look at samples, which a word of 16 bits needs: whether one reaches 2 to the depth. No byte does at its depth, and none is looked at.
-ghost use Rattle.std.specs.Prelude.{◌≡◌, ℕ, ◌^◌, leb, length, get_or};
+ghost use Rattle.std.specs.Prelude.{◌||◌, ◌≡◌, ℕ, ◌^◌, leb, length, get_or};
 ghost use Rattle.answer.specs.Answer.{fault_in};
 ghost use Rattle.sums.specs.Any.{any_below};
-ghost use Rattle.plane.specs.Planes.{plane_fault, too_large, rows_large, sample_fault};
+ghost use Rattle.plane.specs.Planes.{plane_fault, too_large, rows_large, sample_fault, shapes_fault, pair_fault};
 
 use crate::{Depths, Plane};
 use answer::Refusal;
@@ -60,6 +60,32 @@ pub fn sample_fault<S: Depths>(depth: u64, p: Plane, s: &[S]) -> Result<(), Refu
     crate::word_fault::<S>(depth)?;
     p.fault(s.len())?;
     if too_large(depth, p, s) {
+        return Err(Refusal::TooLarge);
+    }
+    Ok(())
+}
+
+// Whether one of two planes that are not refused has a visible sample that reaches 2 to the depth.
+fn any_large<S: Depths>(depth: u64, p: Plane, a: &[S], q: Plane, b: &[S]) -> bool
+    requires { shapes_fault S.word depth p (length a.now) q (length b.now) ≡ 0 }
+    ensures { result ≡ too_large depth p (S.Sample.values a.now) || too_large depth q (S.Sample.values b.now) }
+{
+    too_large(depth, p, a) || too_large(depth, q, b)
+}
+
+// The refusal of the difference and of delta, of two planes over their lent samples: by their shapes, and 16 for a sample that is too large.
+#[tactic(auto, using(answer::proofs::Laws::refusals), unfolding(crate::specs::Planes::pair_fault))]
+pub fn pair_fault<S: Depths>(
+    depth: u64,
+    p: Plane,
+    a: &[S],
+    q: Plane,
+    b: &[S],
+) -> Result<(), Refusal>
+    ensures { fault_in result ≡ pair_fault S.word depth p (S.Sample.values a.now) q (S.Sample.values b.now) }
+{
+    crate::shapes_fault::<S>(depth, p, a.len(), q, b.len())?;
+    if any_large(depth, p, a, q, b) {
         return Err(Refusal::TooLarge);
     }
     Ok(())

@@ -1,5 +1,5 @@
 pub mod SadLaws
 pub mod ByteLaws
 pub mod Visible
+pub mod Words
 pub mod Unique
-pub mod DeepUnique

@@ -7,7 +7,7 @@ use native.Mathlib.Omega.{arith}
 use lib.ListN.{length, get_or}
 use Rattle.plane.specs.declared.Plane.{Plane}
 use Rattle.plane.specs.Planes.{Word, max_side, sample_at, row_of, pair_fault}
-use Rattle.plane.proofs.PlaneLaws.{Lies, Pair, length_row, row_at, pair, total_fits}
+use Rattle.plane.proofs.PlaneLaws.{Pair, length_row, row_at, pair, total_fits}
 use Rattle.plane.proofs.SampleLaws.{measured}
 use Rattle.sums.specs.Sums.{sum_below, apart}
 use Rattle.sums.proofs.SumLaws.{NextSum, next_sum, sum_ext, sum_most, sum_cut, sum_to}
@@ -25,12 +25,9 @@ module _ (a b : List ℕ) (at : ℕ) where
   chunk_more : (c n : ℕ) → gaps_from a b at ((c + 1) * n) ≡ gaps_from a b at (c * n) + gaps_from a b (at + c * n) n
   chunk_more c n = ap (gaps_from a b at) (omega arith) ∙ gaps_cut (c * n) n
 
--- a row from its first place on, and with one part more
+-- a row from its first place on
 pub row_from : (a b : List ℕ) (n : ℕ) → gaps_from a b 0 n ≡ sum_below n (gap_at a b)
 row_from a b n = sum_ext n (λ (i : ℕ). gap_at a b (0 + i)) (gap_at a b) (λ i _. ap (gap_at a b) (omega arith))
-
-pub row_more : (a b : List ℕ) (m n r part : ℕ) → r ≡ sum_below m (gap_at a b) → part ≡ gaps_from a b m n → r + part ≡ sum_below (m + n) (gap_at a b)
-row_more a b m n r part e g = omega (arith, sum_cut m n (gap_at a b))
 
 module _ (k : ℕ) (a b : List ℕ) (l : (i : ℕ) → get_or a i 0 ≤ k) (m : (i : ℕ) → get_or b i 0 ≤ k) where
   gap_most : (x : ℕ) → gap_at a b x ≤ k
@@ -51,21 +48,18 @@ module _ (k : ℕ) (a b : List ℕ) (l : (i : ℕ) → get_or a i 0 ≤ k) (m : 
       let all = mul-le-mul_right k reach in
       (omega arith, omega arith)
 
-  -- what a row, or a part of one, comes to
-  pub row_fits : (n room : ℕ) → n ≤ max_side → max_side * k < room → sum_below n (gap_at a b) < room
-  row_fits n room h fits = omega (arith, sum_most k n (gap_at a b) (λ x _. gap_most x), mul-le-mul_right k h)
+  -- a row's sum and that of the part behind it, in a room that holds the longest row
+  pub row_next : (m n room : ℕ) → m + n ≤ max_side → max_side * k < room → (sum part : ℕ) → sum ≡ sum_below m (gap_at a b) → part ≡ gaps_from a b m n
+      → (sum + part ≡ sum_below (m + n) (gap_at a b)) × (sum + part < room)
+  row_next m n room h fits sum part e d =
+      let more : sum + part ≡ sum_below (m + n) (gap_at a b) = omega (arith, sum_cut m n (gap_at a b)) in
+      (more, omega (arith, sum_most k (m + n) (gap_at a b) (λ x _. gap_most x), mul-le-mul_right k h))
 
-  -- a turn of the sum over all rows
+  -- what a row of two planes comes to
   row_most : (p q : Plane) (y : ℕ) → row_sad p a q b y ≤ p.width * k
   row_most p q y =
       sum_most k p.width (λ (x : ℕ). apart (sample_at p a y x) (sample_at q b y x))
       (λ x _. omega (arith, l (p.origin + y * p.stride + x), m (q.origin + y * q.stride + x)))
-
-  pub rows_next : (p q : Plane) → k < 2 ^ 16 → Lies p (length a) → (y total part : ℕ) → y < p.height
-      → total ≡ sum_below y (row_sad p a q b) → part ≡ row_sad p a q b y → NextSum (2 ^ 42) y total part (row_sad p a q b)
-  rows_next p q s f =
-      next_sum (p.width * k) p.height (2 ^ 42) (row_sad p a q b) (λ y _. row_most p q y)
-      (total_fits p.height p.width k f.height_most f.width_most s)
 
   -- two planes that are not refused
   pub sad_most : (word : Word) (depth : ℕ) (p q : Plane) → k < 2 ^ 16 → pair_fault word depth p a q b ≡ 0 → plane_sad p a q b < 2 ^ 42

@@ -1,16 +1,45 @@
--- Each contract of this crate allows one result alone. Assumes nothing.
+-- Each contract of this crate allows one result alone, at every type that a row's word is, and so at both. Assumes nothing.
 use mathlib.Core.Path.{sym, ◌∙◌}
+use Prim.Native.Nat.{ℕ}
+use lib.Ieee.{Float}
+use Rattle.std.specs.Prelude.{Result}
 use Rattle.answer.specs.Unique.{OneOutcome}
-use Rattle.answer.specs.declared.Real.{Real}
-use Rattle.answer.specs.declared.Whole.{Whole}
-use Rattle.answer.proofs.Laws.{whole_only, real_only}
+use Rattle.answer.specs.declared.Refusal.{Refusal}
+use Rattle.answer.proofs.Laws.{answer_only}
+use Rattle.sad.proofs.Words.{RowSadType, byte_rows_type, word_rows_type}
 use Rattle.sad.proofs.plane_difference.Kinds as difference-kinds
 use Rattle.sad.proofs.plane_difference.Reads as difference-reads
 use Rattle.sad.proofs.delta_in_planes.Kinds as delta-kinds
 use Rattle.sad.proofs.delta_in_planes.Reads as delta-reads
 
-pub plane_difference_unique : OneOutcome 2 difference-kinds.ps difference-kinds.r Whole (λ κs r e. r) difference-reads.Post
-plane_difference_unique κs a r r' e e' p q = whole_only r r' (p ∙ sym q)
+abbrev DifferenceAt : RowSadType → Type 0
+DifferenceAt w =
+    let d = w.of in
+    let s = d.of in
+    OneOutcome 3 (difference-kinds.ps s.row s.laws s.copy) (difference-kinds.r s.row s.laws s.copy) (Result ℕ Refusal) (λ κs r e. r)
+    (difference-reads.Post s.row s.laws s.copy w.RowSad w.RowSad_dict d.Depths d.Depths_dict s.Sample s.Sample_dict s.Clone s.Clone_dict)
 
-pub delta_in_planes_unique : OneOutcome 2 delta-kinds.ps delta-kinds.r Real (λ κs r e. r) delta-reads.Post
-delta_in_planes_unique κs a r r' e e' p q = real_only r r' (p ∙ sym q)
+difference_at : (w : RowSadType) → DifferenceAt w
+difference_at w κs a r r' e e' p q = answer_only r r' (p ∙ sym q)
+
+pub plane_difference_unique : DifferenceAt byte_rows_type
+plane_difference_unique = difference_at byte_rows_type
+
+pub deep_plane_difference_unique : DifferenceAt word_rows_type
+deep_plane_difference_unique = difference_at word_rows_type
+
+abbrev DeltaAt : RowSadType → Type 0
+DeltaAt w =
+    let d = w.of in
+    let s = d.of in
+    OneOutcome 3 (delta-kinds.ps s.row s.laws s.copy) (delta-kinds.r s.row s.laws s.copy) (Result Float Refusal) (λ κs r e. r)
+    (delta-reads.Post s.row s.laws s.copy w.RowSad w.RowSad_dict d.Depths d.Depths_dict s.Sample s.Sample_dict s.Clone s.Clone_dict)
+
+delta_at : (w : RowSadType) → DeltaAt w
+delta_at w κs a r r' e e' p q = answer_only r r' (p ∙ sym q)
+
+pub delta_in_planes_unique : DeltaAt byte_rows_type
+delta_in_planes_unique = delta_at byte_rows_type
+
+pub deep_delta_in_planes_unique : DeltaAt word_rows_type
+deep_delta_in_planes_unique = delta_at word_rows_type

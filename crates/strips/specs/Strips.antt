@@ -8,8 +8,6 @@ use Rattle.plane.specs.declared.Plane.{Plane}
 use Rattle.sad.specs.Difference.{plane_sad}
 use Rattle.strips.specs.declared.carry.Carry.{Carry}
 use Rattle.strips.specs.declared.Totals.{Totals}
-use Rattle.strips.specs.declared.Ended.{Ended}
-use Rattle.strips.specs.declared.Ended.TheVariants as ended
 use Rattle.strips.specs.Carry.{carry_by, carry_of, carry_numbers, blocks_in, is_carry, carry_fault}
 use Rattle.strips.specs.Rows.{Strip, Held, held_rows, room_long}
 
@@ -110,8 +108,3 @@ totals_of c = record { blocks = blocks_in c; difference = c.difference; importan
 
 abbrev pub end_of : List ℕ → Answer Totals
 end_of ns = answered (end_fault ns) (totals_of (carry_of ns))
-
--- the number and the values of each case of the enum
-abbrev pub end_answer : Ended → Answer Totals
-end_answer (ended.Measured t) = gives t
-end_answer (ended.Refused f) = refused f

@@ -1,8 +1,10 @@
 // The carry: six numbers that a caller keeps between calls, and refusal 11.
 ghost use Rattle.std.specs.Prelude.{◌||◌, ◌≡◌, ◌+◌, ◌≤◌, ◌<◌, ◌^◌, ltb, length};
+ghost use Rattle.answer.specs.Answer.{answer_of, answered};
 ghost use Rattle.plane.specs.Planes.{max_side};
 ghost use Rattle.strips.specs.Carry.{carry_long, carry_by, carry_of, carry_numbers, blocks_in, totals_past, carry_unfit, carry_fault};
 
+use answer::Refusal;
 use plane::{BLOCK_SIDE, Plane};
 
 // How many numbers a carry has.
@@ -20,7 +22,7 @@ pub struct Carry {
 }
 
 // The six numbers in their lent places, by name.
-pub fn lent_carry(numbers: &[u64]) -> Carry
+fn lent_carry(numbers: &[u64]) -> Carry
     requires { length numbers.now ≡ carry_long }
     ensures { result ≡ carry_of numbers.now }
 {
@@ -47,55 +49,43 @@ pub fn put_carry(numbers: &mut [u64], c: Carry)
     numbers[5] = c.importance;
 }
 
-// Whether a total is above the limit.
-fn is_above(c: Carry, limit: u64) -> bool
-    ensures { result ≡ ltb limit c.difference || ltb limit c.importance }
-{
-    (limit < c.difference) | (limit < c.importance)
-}
-
 // Whether a total is above what the rows that have come can add up to, by the carry's own depth. A depth that is none has no such limit.
 fn totals_past(c: Carry) -> bool
     requires { (c.rows ≤ max_side) × (c.width ≤ max_side) }
     ensures { result ≡ totals_past c }
 {
-    let depth = c.depth;
-    let area = (c.rows * c.width) as u64;
-    if depth == 8 {
-        return is_above(c, area * 255);
-    }
-    if depth == 10 {
-        return is_above(c, area * 1023);
-    }
-    if depth == 12 {
-        return is_above(c, area * 4095);
-    }
-    false
+    let most = match c.depth {
+        8 => 255,
+        10 => 1023,
+        12 => 4095,
+        _ => return false,
+    };
+    let limit = (c.rows * c.width) as u64 * most;
+    limit < c.difference || limit < c.importance
 }
 
 // Whether 11 refuses it. Sides and rows are looked at first, so that the limit of the totals does not overflow.
 fn carry_unfit(c: Carry) -> bool
     ensures { result ≡ carry_unfit c }
 {
-    let height = c.height;
-    if plane::bad_side(c.width) | plane::bad_side(height) | (height < c.rows) {
+    if plane::bad_side(c.width) || plane::bad_side(c.height) || c.height < c.rows {
         return true;
     }
     totals_past(c)
 }
 
-// Refusal 11 of a carry in its lent places, or 0.
-pub fn carry_fault(numbers: &[u64]) -> u32
-    ensures { result ≡ carry_fault numbers.now }
+// The carry in its lent places, or 11.
+pub fn fit_carry(numbers: &[u64]) -> Result<Carry, Refusal>
+    ensures { answer_of result ≡ answered (carry_fault numbers.now) (carry_of numbers.now) }
 {
     if numbers.len() != CARRY {
-        return 11;
+        return Err(Refusal::BadState);
     }
-    if carry_unfit(lent_carry(numbers)) {
-        11
-    } else {
-        0
+    let c = lent_carry(numbers);
+    if carry_unfit(c) {
+        return Err(Refusal::BadState);
     }
+    Ok(c)
 }
 
 // How many whole blocks the planes have that the strips are cut from.
@@ -113,11 +103,9 @@ pub fn came(c: Carry, p: Plane, more: u64, importance: u64) -> Carry
     ensures { result ≡ carry_by c.width c.height c.depth (c.rows + p.height) (c.difference + more) importance }
 {
     Carry {
-        width: c.width,
-        height: c.height,
-        depth: c.depth,
         rows: c.rows + p.height,
         difference: c.difference + more,
         importance,
+        ..c
     }
 }

@@ -7,3 +7,4 @@ pub mod Places
 pub mod Written
 pub mod Needs
 pub mod Samples
+pub mod Room

@@ -16,12 +16,14 @@ impl Sample for u8 {
 
     ghost narrow = { Prim.search rules };
 
+    ghost room = { Prim.search rules };
+
     fn widened(self) -> u32 {
         self as u32
     }
 
     fn narrowed(v: u32) -> u8 {
-        v as u8
+        (v & 0xff) as u8
     }
 
     // A signed difference, and all of it in 16 bits, since the compiler turns this form into the fewest vector instructions.

@@ -1,6 +1,7 @@
 // A sample stands in a byte, or in a word of 16 bits. What is done with samples of either is written once, over this trait.
-ghost use Rattle.std.specs.Prelude.{◌≡◌, ◌≤◌, ℕ, List, map, slice_index};
+ghost use Rattle.std.specs.Prelude.{◌≡◌, ◌≤◌, ◌+◌, ◌%◌, ℕ, List, map, slice_index};
 ghost use Rattle.sums.specs.Needs.{word_most};
+ghost use Rattle.sums.specs.Room.{TakesTwoBytes};
 ghost use Rattle.sums.specs.Sums.{apart};
 
 pub trait Sample: Copy {
@@ -18,10 +19,11 @@ pub trait Sample: Copy {
         ensures is { result ≡ value self }
         ensures at_most { result ≤ most };
 
-    // The sample that is this number.
+    // The sample that is this number, or of one above the largest the low bits. It takes two bytes at most, so that an array of such
+    // samples has room in memory.
     fn narrowed(v: u32) -> Self
-        requires { v ≤ most }
-        ensures { value result ≡ v };
+        ensures is { value result ≡ v % (most + 1) }
+        ensures size { TakesTwoBytes Self.row };
 
     // How far two samples lie apart.
     fn distance(self, other: Self) -> u16
@@ -34,4 +36,7 @@ pub trait Sample: Copy {
     ghost each: { (s : List Self) → values s ≡ map value s };
 
     ghost narrow: { most ≤ word_most };
+
+    // It takes two bytes at most, so that an array of samples has room in memory.
+    ghost room: { TakesTwoBytes Self.row };
 }

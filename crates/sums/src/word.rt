@@ -16,12 +16,14 @@ impl Sample for u16 {
 
     ghost narrow = { Prim.search rules };
 
+    ghost room = { Prim.search rules };
+
     fn widened(self) -> u32 {
         self as u32
     }
 
     fn narrowed(v: u32) -> u16 {
-        v as u16
+        (v & 0xffff) as u16
     }
 
     // In this form the compiler takes eight distances by three vector instructions, and nothing is widened.

@@ -1,15 +1,33 @@
--- `sad::plane_difference` meets its contract: a refusal is handed on, and two planes that are not refused are summed. Assumes nothing.
-use mathlib.Core.Path.{sym, ◌∙◌}
-use Rattle.answer.proofs.Laws.{answer_given, answer_refused}
-use Rattle.plane.proofs.SampleLaws.{measured}
+-- `sad::plane_difference` meets its contract: a refused shape is handed on, and else the samples decide. Assumes nothing.
+use Rattle.std.proofs.Common.{◌≡◌, ℕ, sym, ap, ◌∙◌, rules}
+use Rattle.std.specs.Prelude.{Err}
+use Rattle.answer.specs.Answer.{answered, answer_of}
+use Rattle.answer.proofs.Laws.{answer_handed, number_some}
+use Rattle.plane.proofs.SampleLaws.{by_shapes, suited, pair_refused, pair_fault_is}
+use Rattle.sad.specs.Difference.{plane_sad}
+use Rattle.sums.proofs.SampleLaws.{length_values}
 use Rattle.sad.proofs.plane_difference.Goals as goal
 
-pub returns-then-fault-ne0 : goal.returns-then-fault-ne0
-returns-then-fault-ne0 c = answer_refused _ _ _ c.pair_fault-fault.ensures c.if-fault-ne0.true
+pub returns-in_err-shapes_fault : goal.returns-in_err-shapes_fault
+returns-in_err-shapes_fault g c =
+    let s = c.args in
+    let as_long = length_values g.met.S.Sample.each in
+    let e = c.in_err-shapes_fault.field-0.0 in
+    let is : c.from_residual.result ≡ Err e = search rules in
+    ap answer_of is ∙ answer_handed e _ _ (pair_refused g.S.Depths.word s.depth s.p _ s.q _ _ (rw (as_long s.a.now, as_long s.b.now) c.in_err-shapes_fault.ensures) (number_some e))
 
 pub sad_plane-requires : goal.sad_plane-requires
-sad_plane-requires c = measured _ _ _ _ _ _ (sym c.pair_fault-fault.ensures ∙ c.if-fault-ne0.false)
+sad_plane-requires g c =
+    let s = c.args in
+    let as_long = length_values g.met.S.Sample.each in
+    let shapes = by_shapes g.S.Depths.word s.depth s.p _ s.q _ (sym c.in_ok-shapes_fault.ensures) in
+    rw (as_long s.a.now, as_long s.b.now) (record { depth_value = suited g.S.Depths.word s.depth shapes.0; sizes = shapes.1 })
 
 pub returns : goal.returns
-returns c =
-    answer_given _ _ _ (sym c.if-fault-ne0.false ∙ c.pair_fault-fault.ensures) c.sad_plane.ensures
+returns g c =
+    let s = c.args in
+    let values = g.S.Sample.values in
+    let as_long = length_values g.met.S.Sample.each in
+    c.sad_plane.ensures
+    ∙ ap (λ (fault : ℕ). answered fault (plane_sad s.p (values s.a.now) s.q (values s.b.now)))
+    (pair_fault_is g.S.Depths.word s.depth s.p (values s.a.now) s.q (values s.b.now) (rw (as_long s.a.now, as_long s.b.now) c.in_ok-shapes_fault.ensures))

@@ -1,55 +1,59 @@
--- `sad::sad_plane` meets its contract. After y turns the total is that of the first y rows, which by the planes' largest size fits. Assumes nothing.
-use mathlib.Core.Path.{◌≡◌, ap, ◌∙◌}
-use Prim.Native.Nat.{◌^◌}
+-- `sad::sad_plane` meets its contract: after y turns the total and the bits are those of the first y rows. Assumes nothing.
+use mathlib.Core.Path.{sym, ◌∙◌}
+use Prim.Native.Nat.{◌<◌}
 use native.Mathlib.Omega.{arith}
-use borrow.Author.Rules.{rules}
-use lib.ListN.{length}
-use Rattle.plane.proofs.PlaneLaws.{Pair, pair}
-use Rattle.sums.specs.Needs.{byte_most}
-use Rattle.sums.proofs.SumLaws.{NextSum, sum_none, sum_to}
+use Rattle.answer.proofs.Laws.{answer_given, answer_refused, test_given, test_passed}
+use Rattle.plane.proofs.PlaneLaws.{pair}
+use Rattle.plane.proofs.SampleLaws.{reach_none}
+use Rattle.sums.proofs.SumLaws.{sum_none, sum_more, sum_to}
 use Rattle.sad.specs.Difference.{row_sad, plane_sad}
-use Rattle.sad.proofs.SadLaws.{rows_next, row_lengths, row_sad_is}
+use Rattle.sad.proofs.ByteLaws.{large_rows, row_reach, rows_more, rows_reach}
+use Rattle.sad.proofs.SadLaws.{row_lengths, row_sad_is}
 use Rattle.sad.proofs.sad_plane.Goals as goal
 
 pub loop-y-init : goal.loop-y-init
-loop-y-init c = (search rules, search rules, sum_none _)
+loop-y-init g c =
+    let s = c.args in
+    let values = g.S.Sample.values in
+    (omega arith, omega arith, sum_none (row_sad s.p (values s.a.now) s.q (values s.b.now)), reach_none (large_rows s.p (values s.a.now) s.q (values s.b.now)) s.depth)
 
-pub row_sad-requires : goal.row_sad-requires
-row_sad-requires c =
-    -- the planes are not refused
-    let planes : let s = c.args in Pair s.p (length s.a.now) s.q (length s.b.now) = pair _ _ _ _ c.requires in
-    -- so their rows are as long as the first is wide
-    let lengths : let width = c.args.p.width in (length c.row.result.now ≡ width) × (length c.row-in-loop-y.result.now ≡ width) = let s = c.args in
-    let l = row_lengths s.p s.a.now s.q s.b.now c.loop-y.y planes (omega arith) in
-    (ap length c.row.ensures ∙ l.0, ap length c.row-in-loop-y.ensures ∙ l.1) in
-    let l = lengths in let h = planes in omega arith
-
-pub overflow_add-total : goal.overflow_add-total
-overflow_add-total c =
-    let planes : let s = c.args in Pair s.p (length s.a.now) s.q (length s.b.now) = pair _ _ _ _ c.requires in
-    let next : let s = c.args in NextSum (2 ^ 42) c.loop-y.y c.loop-y.total c.row_sad.result (row_sad s.p s.a.now s.q s.b.now) = let s = c.args in
-    let h = planes in
-    rows_next byte_most s.a.now s.b.now
-    (λ i. omega (arith, c.shared_slice_known-1.given i))
-    (λ i. omega (arith, c.shared_slice_known-2-1.given i))
-    s.p s.q (omega arith) h.first c.loop-y.y c.loop-y.total c.row_sad.result (omega arith) c.loop-y.invariant.2
-    (row_sad_is s.p s.a.now s.q s.b.now c.loop-y.y h (omega arith) _
-    (rw (c.row.ensures, c.row-in-loop-y.ensures) at c.row_sad.ensures)) in
-    omega (arith, next.1)
+pub row_sad-row-requires : goal.row_sad-row-requires
+row_sad-row-requires g c =
+    let s = c.args in
+    let values = g.S.Sample.values in
+    let planes = pair _ _ _ _ c.requires.sizes in
+    let l = row_lengths s.p (values s.a.now) s.q (values s.b.now) c.loop-y.y planes (omega arith) in
+    rw (c.row.ensures, c.row-in-loop-y.ensures) (record { a_len = l.0 ∙ sym l.1; a_len_bound = omega (arith, l.0, planes.first.width_most) })
 
 pub loop-y-preserved : goal.loop-y-preserved
-loop-y-preserved c =
-    let planes : let s = c.args in Pair s.p (length s.a.now) s.q (length s.b.now) = pair _ _ _ _ c.requires in
-    let next : let s = c.args in NextSum (2 ^ 42) c.loop-y.y c.loop-y.total c.row_sad.result (row_sad s.p s.a.now s.q s.b.now) = let s = c.args in
-    let h = planes in
-    rows_next byte_most s.a.now s.b.now
-    (λ i. omega (arith, c.shared_slice_known-1.given i))
-    (λ i. omega (arith, c.shared_slice_known-2-1.given i))
-    s.p s.q (omega arith) h.first c.loop-y.y c.loop-y.total c.row_sad.result (omega arith) c.loop-y.invariant.2
-    (row_sad_is s.p s.a.now s.q s.b.now c.loop-y.y h (omega arith) _
-    (rw (c.row.ensures, c.row-in-loop-y.ensures) at c.row_sad.ensures)) in
-    (search rules, search rules, next.0)
+loop-y-preserved g c =
+    let s = c.args in
+    let values = g.S.Sample.values in
+    let planes = pair _ _ _ _ c.requires.sizes in
+    let y< : c.loop-y.y < s.p.height = omega arith in
+    let row = rw (c.row.ensures, c.row-in-loop-y.ensures) at c.row_sad-row.ensures in
+    let sum = row_sad_is s.p (values s.a.now) s.q (values s.b.now) c.loop-y.y planes y< _ row.sum_value in (
+      omega arith,
+      omega arith,
+      omega (arith, sum_more c.loop-y.y (row_sad s.p (values s.a.now) s.q (values s.b.now)), c.loop-y.invariant.2, sum),
+      rows_more (large_rows s.p (values s.a.now) s.q (values s.b.now) s.depth) _ _ _ _ c.loop-y.invariant.3
+          (row_reach s.p (values s.a.now) s.q (values s.b.now) c.loop-y.y planes y< s.depth _ (row.by_index s.depth c.requires.depth_value)),
+    )
+
+pub returns-then-reaches : goal.returns-then-reaches
+returns-then-reaches g c =
+    let s = c.args in
+    let values = g.S.Sample.values in
+    let look = rows_reach s.p (values s.a.now) s.q (values s.b.now) s.depth _ _ _ c.reaches.ensures c.loop-y.invariant.3 (omega arith) (pair _ _ _ _ c.requires.sizes).heights in
+    answer_refused 16 _ _ (test_given 16 _ (sym look ∙ c.if-reaches.true)) (λ e. omega arith)
 
 pub returns : goal.returns
 unfolding plane_sad
-returns c = sum_to _ _ _ _ c.loop-y.invariant.2 (omega arith)
+returns g c =
+    let s = c.args in
+    let values = g.S.Sample.values in
+    let look = rows_reach s.p (values s.a.now) s.q (values s.b.now) s.depth _ _ _ c.reaches.ensures c.loop-y.invariant.3 (omega arith) (pair _ _ _ _ c.requires.sizes).heights in
+    answer_given _ _ _ (test_passed 16 _ (sym look ∙ c.if-reaches.false)) (sum_to _ _ _ _ c.loop-y.invariant.2 (omega arith))
+
+pub overflow_add-total : goal.overflow_add-total
+overflow_add-total g c = omega (arith, (pair _ _ _ _ c.requires.sizes).first.height_most)

@@ -1,12 +1,15 @@
--- `sad::sad_plane` meets its contract. After y turns the total is that of the first y rows, which by the planes' largest size fits. Assumes nothing.
+-- `sad::sad_plane` meets its contract: after y turns the total and the bits are those of the first y rows. Assumes nothing.
 use mathlib.Core.Path.{◌≡◌}
-use Prim.Native.Nat.{◌≤◌, ◌-◌}
+use Prim.Native.Nat.{◌*◌, ◌≤◌, ◌^◌}
+use lib.Dec.{leb}
+use Rattle.sums.specs.Any.{any_below}
 use Rattle.sums.specs.Sums.{sum_below}
 use Rattle.sad.specs.Difference.{row_sad}
+use Rattle.sad.proofs.ByteLaws.{large_rows}
 use Rattle.sad.proofs.sad_plane.Given as goal
 
 abbrev pub invariant-loop-y : goal.invariant-loop-y
-invariant-loop-y l = (l.y-end ≡ l.p.height) × (l.y ≤ l.y-end) × (l.total ≡ sum_below l.y (row_sad l.p l.a l.q l.b))
-
-abbrev pub decreases-loop-y : goal.decreases-loop-y
-decreases-loop-y l = l.y-end - l.y
+invariant-loop-y g l =
+    let values = g.S.Sample.values in
+    (l.y ≤ l.p.height) × (l.total ≤ l.y * 2 ^ 32) × (l.total ≡ sum_below l.y (row_sad l.p (values l.a) l.q (values l.b)))
+    × (leb (2 ^ l.depth) l.bits ≡ any_below l.y (large_rows l.p (values l.a) l.q (values l.b) l.depth))

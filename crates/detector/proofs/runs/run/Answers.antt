@@ -13,7 +13,7 @@ use Rattle.detector.proofs.runs.run.Goals as goal
 pub loop-j-init : goal.loop-j-init
 loop-j-init c =
     let a = c.args in
-    (omega arith, ap (run_of (outcome a.before)) (calls_start a.numbers.now a.lengths.now a.keyframes.now a.inter.now a.importance.now a.threshold.now 0))
+    ap (run_of (outcome a.before)) (calls_start a.numbers.now a.lengths.now a.keyframes.now a.inter.now a.importance.now a.threshold.now 0)
 
 pub loop-j-preserved : goal.loop-j-preserved
 loop-j-preserved c =
@@ -23,12 +23,12 @@ loop-j-preserved c =
     let w : Call = call (get_or a.lengths.now j 0) (get_or a.numbers.now j 0) (get_or a.keyframes.now j 0) (take k (drop j a.inter.now)) (take k (drop j a.importance.now)) (take k (drop j a.threshold.now)) in
     let rest = left a.numbers.now a.lengths.now a.keyframes.now a.inter.now a.importance.now a.threshold.now (j + 1) in
     let e : outcome c.then_step-last.result ≡ then_step (outcome c.loop-j.last) w
-    = c.then_step-last.ensures.result_value ∙ rw (c.window-ds.ensures, c.window-is.ensures, c.window-ts.ensures, c.items_of-items.ensures) in
+    = c.then_step-last.ensures.result_value ∙ rw (c.window.ensures, c.window-in-loop-j.ensures, c.window-in-loop-j-2.ensures, c.items_of-items.ensures) in
     let more = calls_more a.numbers.now a.lengths.now a.keyframes.now a.inter.now a.importance.now a.threshold.now j (omega arith) (omega arith) (omega arith) in
-    (omega arith, c.loop-j.invariant.1 ∙ ap (run_of (outcome c.loop-j.last)) more ∙ run_more (outcome c.loop-j.last) w rest ∙ ap (λ (o : Outcome). run_of o rest) (sym e))
+    c.loop-j.invariant ∙ ap (run_of (outcome c.loop-j.last)) more ∙ run_more (outcome c.loop-j.last) w rest ∙ ap (λ (o : Outcome). run_of o rest) (sym e)
 
 pub returns : goal.returns
 returns c =
     let a = c.args in
     let end = calls_end a.numbers.now a.lengths.now a.keyframes.now a.inter.now a.importance.now a.threshold.now c.loop-j.j (omega arith) in
-    sym (c.loop-j.invariant.1 ∙ ap (run_of (outcome c.loop-j.last)) end ∙ run_end (outcome c.loop-j.last))
+    sym (c.loop-j.invariant ∙ ap (run_of (outcome c.loop-j.last)) end ∙ run_end (outcome c.loop-j.last))

@@ -1,0 +1,56 @@
+// Rows of words of 16 bits. A row is looked at for refusal 16 while it is summed, so that each sample is read once.
+ghost use Rattle.std.specs.Prelude.{◌≡◌, ℕ, ◌+◌, ◌*◌, ◌^◌, ◌≤◌, leb};
+ghost use Rattle.sums.specs.Any.{any_below};
+ghost use Rattle.sad.specs.Needs.{gaps_from, large_from, LongRows};
+
+use crate::{Row, RowSad};
+use sums::Sample;
+
+// A row is taken in chunks of this many samples. The low and the high bytes of a chunk's distances are summed in 16 bits
+// each: so one vector instruction adds eight of them, and no distance is widened.
+const CHUNK: usize = 256;
+
+// Of a chunk: the sum of the distances' low bytes, that of their high bytes, and the bits that some sample has.
+#[derive(Clone, Copy)]
+struct Chunk {
+    low: u16,
+    high: u16,
+    bits: u16,
+}
+
+fn chunk_sad(a: &[u16], b: &[u16], at: usize, n: usize) -> Chunk
+    requires long_rows { LongRows a.now b.now (at + n) }
+    requires n_bound { n ≤ 256 }
+    ensures high_value { result.low + 256 * result.high ≡ gaps_from a.now b.now at n }
+    ensures by_index { (m : ℕ) → leb (2 ^ m) result.bits ≡ any_below n (large_from a.now b.now at m) }
+{
+    let mut low: u16 = 0;
+    let mut high: u16 = 0;
+    let mut bits: u16 = 0;
+    for i in 0..n {
+        let x = a[at + i];
+        let y = b[at + i];
+        let d = x.distance(y);
+        low += d % 256;
+        high += d / 256;
+        bits = bits | x | y;
+    }
+    Chunk { low, high, bits }
+}
+
+impl RowSad for u16 {
+    fn row_sad(a: &[u16], b: &[u16]) -> Row {
+        let len = a.len();
+        let mut sum: u32 = 0;
+        let mut bits: u16 = 0;
+        let mut at: usize = 0;
+        while at < len {
+            let n = sums::lesser(CHUNK, len - at);
+            let chunk = chunk_sad(a, b, at, n);
+            sum += (chunk.low as u32) + 256 * (chunk.high as u32);
+            bits |= chunk.bits;
+            at += n;
+        }
+        Row { sum, bits }
+    }
+}
