@@ -7,7 +7,7 @@ use lib.Dec.{eqb}
 use borrow.Author.Tests.{ne_eqb, eqb-true, eqb-false}
 use Rattle.answer.specs.Refusal.{number_of, refusal, ◌or_else◌}
 use Rattle.answer.specs.Answer.{Answer, gives, refused, answered, lent_after, answer_of, fault_in}
-use Rattle.std.specs.Prelude.{Result, Ok, Err}
+use Rattle.std.specs.Prelude.{Result, Ok, Err, IsOk}
 use Rattle.answer.specs.declared.Refusal.{Refusal}
 use Rattle.answer.specs.declared.Refusal.TheVariants.{BadPlane, PastSamples, SizesDiffer, NoRoom, BadDepth, BadSize, BadNumber, BadLength, Stop, BadList, BadState, NoMark, BadCut, NotRising, LogRoom, TooLarge, TooManyRows, RowsLeft, NoBlock}
 
@@ -180,6 +180,11 @@ pub answer_handed : {A : Type 0} (e : Refusal) (fault : ℕ) (a : A) → number_
 answer_handed e fault a p = answer_refused _ fault a p (number_some e)
 
 pub ruleset answers = (answer_handed, answer_given)
+
+-- a result without a refusal holds a value
+pub fault_ok : {A : Type 0} (r : Result A Refusal) → fault_in r ≡ 0 → IsOk r
+fault_ok (Ok a) p = refl
+fault_ok (Err e) p = absurd (number_some e p)
 
 abbrev is_given : {A : Type 0} → Answer A → Bool
 is_given (gives a) = true
