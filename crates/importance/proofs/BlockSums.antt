@@ -1,6 +1,6 @@
 -- Sums and means of blocks, over the largest sample k: what each loop knows after a turn. Assumes nothing.
 use mathlib.Core.List.{List}
-use mathlib.Core.Path.{◌≡◌, refl, sym, ◌∙◌}
+use mathlib.Core.Path.{◌≡◌, sym, ◌∙◌}
 use Prim.Native.Nat.{ℕ, ◌+◌, ◌-◌, ◌*◌, ◌≤◌, ◌<◌, ◌^◌}
 use native.Mathlib.Nat.{mul-le-mul_right}
 use native.Mathlib.Omega.{arith}
@@ -11,7 +11,7 @@ use Rattle.plane.specs.Planes.{Word, sizes_fault}
 use Rattle.plane.specs.declared.Plane.{Plane}
 use Rattle.plane.proofs.BlockLaws.{count_most, row_starts, block_from}
 use Rattle.plane.proofs.PlaneLaws.{Pair, pair, total_fits}
-use Rattle.plane.proofs.SquareLaws.{part_sum, row_next, square_next, square_is, square_most}
+use Rattle.plane.proofs.SquareLaws.{part_sum, square_is, square_most}
 use Rattle.sums.specs.Sums.{sum_below, apart}
 use Rattle.sums.proofs.MeanLaws.{mean_most}
 use Rattle.sums.proofs.SumLaws.{sum_more, sum_ext, sum_most, sum_to}
@@ -22,39 +22,16 @@ use Rattle.importance.proofs.Refusals.{one_size}
 
 -- ---- one block
 
--- a part's first samples after i of them, and a block after j rows
-abbrev pub RowSum : List ℕ → ℕ → ℕ → Type 0
-RowSum s sum i = (i ≤ block_side) × (sum ≡ sum_below i (λ (n : ℕ). get_or s n 0))
-
-abbrev pub SquareSum : List ℕ → ℕ → ℕ → ℕ → ℕ → Type 0
-SquareSum s start stride sum j = (j ≤ block_side) × (sum ≡ sum_below j (row_from block_side s start stride))
-
 -- row j of a block lies within the samples, as the last one does
-abbrev pub RowIn : List ℕ → ℕ → ℕ → ℕ → Type 0
-RowIn s start stride j = start + j * stride + block_side ≤ length s
-
-pub row_in : (s : List ℕ) (start stride j : ℕ) → RowIn s start stride 7 → j < block_side → RowIn s start stride j
+pub row_in : (s : List ℕ) (start stride j : ℕ) → start + 7 * stride + block_side ≤ length s → j < block_side → start + j * stride + block_side ≤ length s
 row_in s start stride j h j< = let k : j * stride ≤ 7 * stride = mul-le-mul_right stride (omega arith) in omega arith
 
--- one turn, in a room that a block's sum fits
-abbrev pub RowTurn : ℕ → List ℕ → ℕ → ℕ → Type 0
-RowTurn room s sum i = RowSum s (sum + get_or s i 0) (i + 1) × (sum + get_or s i 0 < room)
-
-abbrev pub SquareTurn : ℕ → List ℕ → ℕ → ℕ → ℕ → ℕ → ℕ → Type 0
-SquareTurn room s start stride sum part j = SquareSum s start stride (sum + part) (j + 1) × (sum + part < room)
-
-module _ (k room : ℕ) (fits : 64 * k < room) (s : List ℕ) (l : (i : ℕ) → get_or s i 0 ≤ k) where
-  pub row_turn : (sum i : ℕ) → RowSum s sum i → i < block_side → RowTurn room s sum i
-  row_turn sum i h i< =
-      let next = row_next k block_side s l room (λ (n : ℕ). n) (omega arith) i sum (get_or s i 0) i< h.1 refl in
-      ((omega arith, next.0), next.1)
-
-  pub square_turn : (start stride sum part j : ℕ) → SquareSum s start stride sum j → j < block_side → RowIn s start stride j
-      → part ≡ sum_below block_side (λ (i : ℕ). get_or (take (length s - (start + j * stride)) (drop (start + j * stride) s)) i 0)
-      → SquareTurn room s start stride sum part j
-  square_turn start stride sum part j h j< inside e =
-      let next = square_next k block_side s l room start stride (omega arith) j sum part j< h.1 (e ∙ part_sum s (start + j * stride) block_side inside) in
-      ((omega arith, next.0), next.1)
+-- the sum of j rows and of one more, a part's first samples
+pub square_more : (s : List ℕ) (start stride j sum part : ℕ) → sum ≡ sum_below j (row_from block_side s start stride) → start + j * stride + block_side ≤ length s
+    → part ≡ sum_below block_side (λ (i : ℕ). get_or (take (length s - (start + j * stride)) (drop (start + j * stride) s)) i 0)
+    → sum + part ≡ sum_below (j + 1) (row_from block_side s start stride)
+square_more s start stride j sum part h inside e =
+    omega (arith, h, e ∙ part_sum s (start + j * stride) block_side inside, sum_more j (row_from block_side s start stride))
 
 module _ (k : ℕ) (s : List ℕ) (l : (i : ℕ) → get_or s i 0 ≤ k) where
   -- a block's sum, by its place and as the plane's own
@@ -121,8 +98,8 @@ module _ {p : Plane} {a : List ℕ} {q : Plane} {b : List ℕ} {y start start2 :
 
   -- one turn
   pub gap_turn : (x total org other part : ℕ) → GapSum a start p.stride b start2 q.stride total x
-      → org ≡ square_from block_side a (start + x * block_side) p.stride → other ≡ square_from block_side b (start2 + x * block_side) q.stride
-      → part ≡ apart (mean org) (mean other) → GapSum a start p.stride b start2 q.stride (total + part) (x + 1)
+      → org ≡ mean (square_from block_side a (start + x * block_side) p.stride) → other ≡ mean (square_from block_side b (start2 + x * block_side) q.stride)
+      → part ≡ apart org other → GapSum a start p.stride b start2 q.stride (total + part) (x + 1)
   gap_turn x total org other part h e d f = omega (arith, h, rw (e, d) at f, sum_more x (gap_of a start p.stride b start2 q.stride))
 
   -- all of the row is the planes' own

@@ -38,7 +38,7 @@ module _ (depth : ℕ) (p : Plane) (a : List ℕ) (q : Plane) (b : List ℕ) whe
   pub record LookSum (total y : ℕ) : Type 0 where
     pub rows : y ≤ blocks_down p
     pub sum : total ≡ sum_below y (blocks_difference p a q b)
-    pub most : total ≤ y * 2 ^ 42
+    pub most : total ≤ y * 2 ^ 26
     pub clear : any_below (y * block_side) large ≡ false
 
   pub look_none : LookSum 0 0
@@ -76,7 +76,7 @@ module _ (depth : ℕ) (p : Plane) (a : List ℕ) (q : Plane) (b : List ℕ) whe
 
       -- .. or lets a row of blocks be summed ..
       pub look_turn : (part : ℕ) → y < blocks_down p → {found : Bool} → found ≡ look (y * block_side) (y * block_side + block_side) → found ≡ false
-          → part ≡ blocks_difference p a q b y → part ≤ 2 ^ 42 → LookSum (total + part) (y + 1)
+          → part ≡ blocks_difference p a q b y → part ≤ 2 ^ 26 → LookSum (total + part) (y + 1)
       look_turn part y< l e d m =
           let end : y * block_side + block_side ≡ (y + 1) * block_side = omega arith in
           let clear = look_more (y * block_side) (y * block_side + block_side) refl (omega arith) (omega arith) ∙ sym l ∙ e in
@@ -88,7 +88,7 @@ module _ (depth : ℕ) (p : Plane) (a : List ℕ) (q : Plane) (b : List ℕ) whe
           }
 
       -- the total is far below what an integer of 64 bits holds
-      pub look_fits : (part : ℕ) → y < blocks_down p → part ≤ 2 ^ 42 → total + part < 2 ^ 64
+      pub look_fits : (part : ℕ) → y < blocks_down p → part ≤ 2 ^ 26 → total + part < 2 ^ 64
       look_fits part y< m =
           omega (arith, s.most, (pair p (length a) q (length b) h).first.height_most)
 

@@ -6,20 +6,20 @@ use Rattle.std.specs.Prelude.{Result}
 use Rattle.answer.specs.Unique.{OneOutcome}
 use Rattle.answer.specs.declared.Refusal.{Refusal}
 use Rattle.answer.proofs.Laws.{answer_only}
-use Rattle.importance.proofs.Words.{BlockSumType, byte_blocks_type, word_blocks_type}
+use Rattle.importance.proofs.Words.{BlockMeanType, byte_blocks_type, word_blocks_type}
 use Rattle.importance.proofs.importance_total.Kinds as total-kinds
 use Rattle.importance.proofs.importance_total.Reads as total-reads
 use Rattle.importance.proofs.importance.Kinds as importance-kinds
 use Rattle.importance.proofs.importance.Reads as importance-reads
 
-abbrev TotalAt : BlockSumType → Type 0
+abbrev TotalAt : BlockMeanType → Type 0
 TotalAt w =
     let d = w.of in
     let s = d.of in
     OneOutcome 3 (total-kinds.ps s.row s.laws s.copy) (total-kinds.r s.row s.laws s.copy) (Result ℕ Refusal) (λ κs r e. r)
-    (total-reads.Post s.row s.laws s.copy w.BlockSum w.BlockSum_dict d.Depths d.Depths_dict s.Sample s.Sample_dict s.Clone s.Clone_dict)
+    (total-reads.Post s.row s.laws s.copy w.BlockMean w.BlockMean_dict d.Depths d.Depths_dict s.Sample s.Sample_dict s.Clone s.Clone_dict)
 
-total_at : (w : BlockSumType) → TotalAt w
+total_at : (w : BlockMeanType) → TotalAt w
 total_at w κs a r r' e e' p q = answer_only r r' (p ∙ sym q)
 
 pub importance_total_unique : TotalAt byte_blocks_type
@@ -28,14 +28,14 @@ importance_total_unique = total_at byte_blocks_type
 pub deep_importance_total_unique : TotalAt word_blocks_type
 deep_importance_total_unique = total_at word_blocks_type
 
-abbrev ImportanceAt : BlockSumType → Type 0
+abbrev ImportanceAt : BlockMeanType → Type 0
 ImportanceAt w =
     let d = w.of in
     let s = d.of in
     OneOutcome 3 (importance-kinds.ps s.row s.laws s.copy) (importance-kinds.r s.row s.laws s.copy) (Result Float Refusal) (λ κs r e. r)
-    (importance-reads.Post s.row s.laws s.copy w.BlockSum w.BlockSum_dict d.Depths d.Depths_dict s.Sample s.Sample_dict s.Clone s.Clone_dict)
+    (importance-reads.Post s.row s.laws s.copy w.BlockMean w.BlockMean_dict d.Depths d.Depths_dict s.Sample s.Sample_dict s.Clone s.Clone_dict)
 
-importance_at : (w : BlockSumType) → ImportanceAt w
+importance_at : (w : BlockMeanType) → ImportanceAt w
 importance_at w κs a r r' e e' p q = answer_only r r' (p ∙ sym q)
 
 pub importance_unique : ImportanceAt byte_blocks_type

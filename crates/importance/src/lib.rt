@@ -7,9 +7,8 @@ ghost use Rattle.answer.specs.Answer.{answered, answer_of};
 ghost use Rattle.answer.specs.Refusal.{refusal};
 ghost use Rattle.plane.specs.Blocks.{blocks_down};
 ghost use Rattle.plane.specs.Planes.{suits, sizes_fault, rows_large, too_large};
-ghost use Rattle.sums.specs.Sums.{apart};
-ghost use Rattle.importance.specs.Needs.{deep_most, SmallBlocks};
-ghost use Rattle.importance.specs.Importance.{mean, blocks_difference, importance_total, total_of, importance_of};
+ghost use Rattle.importance.specs.Needs.{SmallBlocks};
+ghost use Rattle.importance.specs.Importance.{blocks_difference, importance_total, total_of, importance_of};
 
 use answer::Refusal;
 use plane::{BLOCK_SIDE, Plane};
@@ -18,23 +17,15 @@ mod block;
 mod byte;
 mod word;
 
-pub use block::BlockSum;
+pub use block::BlockMean;
 
-// How far two rounded means lie apart. Each is rounded by itself: the mean of the differences is another number.
-fn means_apart(org: u32, other: u32) -> u32
-    requires { (org ≤ 64 * deep_most) × (other ≤ 64 * deep_most) }
-    ensures { result ≡ apart (mean org) (mean other) }
-{
-    ((org + 32) / 64).abs_diff((other + 32) / 64)
-}
-
-// The differences of row y of blocks.
-fn blocks_difference<S: BlockSum>(p: Plane, a: &[S], q: Plane, b: &[S], y: usize) -> u64
+// The differences of row y of blocks. Each mean is rounded by itself: the mean of the differences is another number.
+fn blocks_difference<S: BlockMean>(p: Plane, a: &[S], q: Plane, b: &[S], y: usize) -> u64
     requires b_value { sizes_fault p (length (S.Sample.values a.now)) q (length (S.Sample.values b.now)) ≡ 0 }
     requires y_bound { y < blocks_down p }
     requires small_blocks { SmallBlocks p (S.Sample.values a.now) y × SmallBlocks q (S.Sample.values b.now) y }
     ensures is { result ≡ blocks_difference p (S.Sample.values a.now) q (S.Sample.values b.now) y }
-    ensures at_most { result ≤ 2 ^ 42 }
+    ensures at_most { result ≤ 2 ^ 26 }
 {
     let step = p.stride;
     let step2 = q.stride;
@@ -42,15 +33,15 @@ fn blocks_difference<S: BlockSum>(p: Plane, a: &[S], q: Plane, b: &[S], y: usize
     let start2 = q.block_row(b.len(), y);
     let mut total: u64 = 0;
     for x in 0..p.width / BLOCK_SIDE {
-        let org = S::sum_8x8_block(a, start + x * BLOCK_SIDE, step);
-        let other = S::sum_8x8_block(b, start2 + x * BLOCK_SIDE, step2);
-        total += means_apart(org, other) as u64;
+        let org = S::block_mean(a, start + x * BLOCK_SIDE, step);
+        let other = S::block_mean(b, start2 + x * BLOCK_SIDE, step2);
+        total += org.abs_diff(other) as u64;
     }
     total
 }
 
 // Whether one of the rows from one up to another, of either plane, has a sample that reaches 2 to the depth.
-fn any_large<S: BlockSum>(
+fn any_large<S: BlockMean>(
     depth: u64,
     p: Plane,
     a: &[S],
@@ -66,7 +57,7 @@ fn any_large<S: BlockSum>(
 
 // The differences of all whole blocks of two planes of one size, or 16 where a sample is too large. The samples of a row of
 // blocks are looked at just before they are summed; those below the last whole block come last.
-fn all_differences<S: BlockSum>(
+fn all_differences<S: BlockMean>(
     depth: u64,
     p: Plane,
     a: &[S],
@@ -95,7 +86,7 @@ fn all_differences<S: BlockSum>(
 
 // The importance total of two planes, before the division. Shapes and blocks are asked for one after the other. `blocks_fault` does both, but
 // the compiler keeps it apart, and two planes as its arguments take 112 bytes of stack.
-pub fn importance_total<S: BlockSum>(
+pub fn importance_total<S: BlockMean>(
     depth: u64,
     p: Plane,
     a: &[S],
@@ -111,7 +102,7 @@ pub fn importance_total<S: BlockSum>(
 
 // The importance of two planes: the total over the number of blocks. It asks for the total as a caller does: so the compiler has one
 // place for the loops, and their stack is small.
-pub fn importance<S: BlockSum>(
+pub fn importance<S: BlockMean>(
     depth: u64,
     p: Plane,
     a: &[S],

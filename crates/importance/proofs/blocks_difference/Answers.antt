@@ -1,5 +1,6 @@
 -- `importance::blocks_difference` meets its contract. After x turns the total is that of the first x blocks, and a block that is whole lies within the samples. Assumes nothing.
 use native.Mathlib.Omega.{arith}
+use borrow.Author.Rules.{rules}
 use Rattle.sums.proofs.SampleLaws.{length_values}
 use Rattle.sums.proofs.SumLaws.{sum_none}
 use Rattle.importance.proofs.BlockSums.{blocks_row, across_most, blocks_in, blocks_small, gap_turn, gaps_are}
@@ -15,8 +16,8 @@ overflow_add-start g c =
     let inside = blocks_in row c.loop-x.x (omega arith) in
     omega (arith, inside.first, as_long c.args.a.now)
 
-pub sum_8x8_block-org-requires : goal.sum_8x8_block-org-requires
-sum_8x8_block-org-requires g c =
+pub block_mean-org-requires : goal.block_mean-org-requires
+block_mean-org-requires g c =
     let as_long = length_values g.met.S.Sample.each in
     let row = blocks_row c.requires.b_value c.requires.y_bound (as_long c.args.a.now) c.block_row-start.ensures (as_long c.args.b.now) c.block_row-start2.ensures in
     record { inside = (blocks_in row c.loop-x.x (omega arith)).first; small_rows = (blocks_small row c.requires.small_blocks c.loop-x.x (omega arith)).0 }
@@ -28,8 +29,8 @@ overflow_add-start2 g c =
     let inside = blocks_in row c.loop-x.x (omega arith) in
     omega (arith, inside.second, as_long c.args.b.now)
 
-pub sum_8x8_block-other-requires : goal.sum_8x8_block-other-requires
-sum_8x8_block-other-requires g c =
+pub block_mean-other-requires : goal.block_mean-other-requires
+block_mean-other-requires g c =
     let as_long = length_values g.met.S.Sample.each in
     let row = blocks_row c.requires.b_value c.requires.y_bound (as_long c.args.a.now) c.block_row-start.ensures (as_long c.args.b.now) c.block_row-start2.ensures in
     record { inside = (blocks_in row c.loop-x.x (omega arith)).second; small_rows = (blocks_small row c.requires.small_blocks c.loop-x.x (omega arith)).1 }
@@ -44,7 +45,7 @@ pub loop-x-preserved : goal.loop-x-preserved
 loop-x-preserved g c =
     let as_long = length_values g.met.S.Sample.each in
     let row = blocks_row c.requires.b_value c.requires.y_bound (as_long c.args.a.now) c.block_row-start.ensures (as_long c.args.b.now) c.block_row-start2.ensures in
-    (omega arith, omega arith, gap_turn row _ _ _ _ _ c.loop-x.invariant.2 c.sum_8x8_block-org.ensures.is c.sum_8x8_block-other.ensures.is c.means_apart.ensures)
+    (omega arith, omega arith, gap_turn row _ _ _ _ _ c.loop-x.invariant.2 c.block_mean-org.ensures c.block_mean-other.ensures (search rules))
 
 pub returns : goal.returns
 returns g c =

@@ -2,7 +2,7 @@
 use native.Mathlib.Omega.{arith}
 use Rattle.plane.specs.Blocks.{block_side}
 use Rattle.importance.proofs.FourRows.{halves_are, upper_rows, lower_rows, rows_most}
-use Rattle.importance.proofs.word.U16BlockSum.sum_8x8_block.Goals as goal
+use Rattle.importance.proofs.word.sum_8x8_block.Goals as goal
 
 pub sum_rows-requires : goal.sum_rows-requires
 sum_rows-requires c = let s = c.args in record { inside = omega arith; small_rows = upper_rows s.s.now s.start s.stride c.requires.small_rows }
