@@ -206,3 +206,7 @@ pub lent_stays : {A : Type 0} (fault : ℕ) (new old : A) → (fault ≡ 0 → �
 lent_stays fault new old h = lent_kept fault fault new old refl h
 
 pub ruleset lents = (lent_stays, lent_written, number_some)
+
+pub refused_is : {A : Type 0} (fault n : ℕ) (v : A) → refused n ≡ answered fault v → n ≡ fault
+refused_is {A} fault n v =
+    answer_cases (λ (x : Answer A). refused n ≡ x → n ≡ fault) fault v (λ z e. absurd (true≢false (sym (ap is_given e)))) (λ h e. cc)

@@ -15,7 +15,7 @@ ghost use Rattle.satd.specs.Satd.{satd_of};
 ghost use Rattle.scale.specs.Scale.{factor_answer};
 ghost use Rattle.brinepulley.specs.Coded.{coded, done, status, held_after, decided, plane_by};
 
-use importance::BlockSum;
+use importance::BlockMean;
 use plane::Depths;
 use sad::RowSad;
 use settings::Settings;
@@ -58,7 +58,7 @@ pub fn brine_plane_difference<S: RowSad>(
 }
 
 // The importance total of two planes, before the division.
-pub fn brine_importance_total<S: BlockSum>(
+pub fn brine_importance_total<S: BlockMean>(
     depth: u32,
     first: &[S],
     width: usize,
@@ -108,7 +108,7 @@ pub fn brine_delta<S: RowSad>(
 }
 
 // The importance of two planes: 0, and the quotient in `importance`.
-pub fn brine_importance<S: BlockSum>(
+pub fn brine_importance<S: BlockMean>(
     depth: u32,
     first: &[S],
     width: usize,

@@ -72,8 +72,8 @@ module _ (word : Word) (k : Kept) (s : Strip) where
           (f ∙ ap (λ (b : Carry). refusal 16 (too_large b.depth s.first s.a || too_large b.depth s.second s.b)) e))
 
       -- 16
-      pub sample_refused : 16 ≡ refusal 16 large → Refused 16
-      sample_refused f = refused_by 16 (samples_decide 16 f) (λ z. omega arith)
+      pub sample_refused : (r : ℕ) → r ≡ refusal 16 large → (r ≡ 0 → ⊥) → Refused r
+      sample_refused r f h = refused_by r (samples_decide r f) h
 
       pub accepted : 0 ≡ refusal 16 large → 0 ≡ add_fault word k s
       accepted f = samples_decide 0 f

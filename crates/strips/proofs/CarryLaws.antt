@@ -1,7 +1,7 @@
 -- When a carry is unfit, and what one that is not keeps to. Assumes nothing.
 use mathlib.Core.Bool.{Bool, true, false, not, ◌||◌, ◌&&◌}
 use mathlib.Core.List.{List}
-use mathlib.Core.Path.{◌≡◌, refl, sym, ap}
+use mathlib.Core.Path.{◌≡◌, refl, sym, ap, ◌∙◌}
 use Prim.Native.Nat.{ℕ, ◌-◌, ◌*◌, ◌/◌, ◌≤◌, ◌<◌, ◌^◌}
 use native.Mathlib.Decide.{dec_lt}
 use native.Mathlib.Nat.{mul_assoc, mul-zero, mul-le-mul}
@@ -14,6 +14,8 @@ use Rattle.plane.specs.Blocks.{block_side}
 use Rattle.plane.specs.Planes.{Word, byte, deep, suits, bad_side, max_side, depth_fault, word_fault}
 use Rattle.plane.proofs.PlaneLaws.{good_side, total_fits}
 use Rattle.plane.proofs.SampleLaws.{suited}
+use Rattle.answer.specs.Answer.{gives, answered}
+use Rattle.answer.proofs.Laws.{given_by}
 use Rattle.strips.specs.declared.carry.Carry.{Carry}
 use Rattle.strips.specs.Carry.{carry_long, carry_of, blocks_along, blocks_in, totals_most, totals_past, carry_unfit, is_carry, carry_fault}
 use Rattle.strips.specs.Needs.{Sound}
@@ -173,3 +175,10 @@ totals_small word c s =
     let small = most_small word c.depth s.depth_fits in
     let k : 2 ^ c.depth - 1 < 2 ^ 16 = omega arith in
     omega (arith, mul_assoc c.rows c.width (2 ^ c.depth - 1), total_fits c.rows c.width (2 ^ c.depth - 1) (omega (arith, s.come, s.height_most)) s.width_most k)
+
+-- what a carry that was looked at tells: it is fit, or what it is refused with
+pub carry_given : (ns : List ℕ) (k : Carry) → gives k ≡ answered (carry_fault ns) (carry_of ns)
+    → (0 ≡ carry_fault ns) × (k ≡ carry_of ns) × (carry_unfit k ≡ false)
+carry_given ns k e =
+    let t = given_by (carry_fault ns) (carry_of ns) k e in
+    (sym t.0, t.1, ap carry_unfit t.1 ∙ (carry_passed ns t.0).1)

@@ -251,7 +251,7 @@ strips_as_whole word depth frames w work strips ns room costs good intra carry e
     let suits = suit word depth frames w work ns room costs good intra in
     let blocks = some word depth frames w work ns room costs good intra in
     let list : blocks_in (carry_at word depth frames good 0) ≤ length costs =
-    omega (arith, blocks_same word depth frames w work ns room costs good intra, (fine word depth frames.second frames.b w work (length costs) intra).1) in
+    omega (arith, blocks_same word depth frames w work ns room costs good intra, (fine frames.b work intra (length frames.b) (length work) refl refl).room_enough) in
     let all = all_strips word depth frames costs good suits blocks 0 room costs (level_none word depth frames w work ns room costs good intra enough) list strips cut in
     let begun = begins word depth frames w work ns room costs good intra carry in (
       sym (answer_given _ _ _ (start_passes word depth frames w work ns room costs good intra carry) refl),

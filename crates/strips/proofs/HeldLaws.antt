@@ -7,10 +7,11 @@ use native.Mathlib.Omega.{arith}
 use borrow.Author.Tests.{eq-eqb, le-ltb}
 use borrow.Rule.Slice.PartMut.{put_mid}
 use lib.ListN.{length, get_or, take, drop, length-take, length-drop}
-use Rattle.answer.specs.Answer.{Answer, whole_answer}
+use Rattle.answer.specs.Answer.{Answer, answer_of}
 use Rattle.answer.specs.Refusal.{refusal}
-use Rattle.answer.specs.declared.Whole.{Whole}
-use Rattle.answer.specs.declared.Whole.TheVariants as whole
+use Rattle.std.specs.Prelude.{Result, Ok, Err}
+use Rattle.std.specs.Result.{result_unwrap_or}
+use Rattle.answer.specs.declared.Refusal.{Refusal}
 use Rattle.answer.proofs.Laws.{or_later, or_both, test_given, test_passed, answer_cases, lent_written, lent_kept}
 use Rattle.importance.specs.Importance.{importance_fault, total_of}
 use Rattle.importance.proofs.BlockSums.{total_most}
@@ -80,15 +81,11 @@ module _ (word : Word) (c : Carry) (s : Sound word c) (room : List ℕ) (enough 
 
   -- ---- a finished row of blocks
 
-  -- what the importance total rises by
-  module _ (r : Whole) (e : whole_answer r ≡ total_of word c.depth (held_first c) room (held_second c) room) where
-    pub rise_given : (n : ℕ) → r ≡ whole.Number n → n ≡ blocks_rise word c room
-    unfolding blocks_rise
-    rise_given n d = ap or_nothing (sym (ap whole_answer d) ∙ e)
-
-    pub rise_refused : (f : ℕ) → r ≡ whole.Refused f → 0 ≡ blocks_rise word c room
-    unfolding blocks_rise
-    rise_refused f d = ap or_nothing (sym (ap whole_answer d) ∙ e)
+  -- what the importance total rises by: the total, or nothing where it is refused
+  pub rise_is : (r : Result ℕ Refusal) → answer_of r ≡ total_of word c.depth (held_first c) room (held_second c) room → result_unwrap_or r 0 ≡ blocks_rise word c room
+  unfolding blocks_rise
+  rise_is (Ok n) e = ap or_nothing e
+  rise_is (Err f) e = ap or_nothing e
 
   -- it is small, whatever the room holds
   pub rise_most : (k : ℕ) → k < 2 ^ 16 → ((i : ℕ) → get_or room i 0 ≤ k) → blocks_rise word c room < 2 ^ 42

@@ -8,4 +8,5 @@ pub mod Level
 pub mod Frames
 pub mod Cut
 pub mod Promised
+pub mod Words
 pub mod Unique

@@ -49,26 +49,38 @@ pub fn put_carry(numbers: &mut [u64], c: Carry)
     numbers[5] = c.importance;
 }
 
+// Whether a total is above the limit.
+fn is_above(c: Carry, limit: u64) -> bool
+    ensures { result ≡ ltb limit c.difference || ltb limit c.importance }
+{
+    (limit < c.difference) | (limit < c.importance)
+}
+
 // Whether a total is above what the rows that have come can add up to, by the carry's own depth. A depth that is none has no such limit.
 fn totals_past(c: Carry) -> bool
     requires { (c.rows ≤ max_side) × (c.width ≤ max_side) }
     ensures { result ≡ totals_past c }
 {
-    let most = match c.depth {
-        8 => 255,
-        10 => 1023,
-        12 => 4095,
-        _ => return false,
-    };
-    let limit = (c.rows * c.width) as u64 * most;
-    limit < c.difference || limit < c.importance
+    let depth = c.depth;
+    let area = (c.rows * c.width) as u64;
+    if depth == 8 {
+        return is_above(c, area * 255);
+    }
+    if depth == 10 {
+        return is_above(c, area * 1023);
+    }
+    if depth == 12 {
+        return is_above(c, area * 4095);
+    }
+    false
 }
 
 // Whether 11 refuses it. Sides and rows are looked at first, so that the limit of the totals does not overflow.
 fn carry_unfit(c: Carry) -> bool
     ensures { result ≡ carry_unfit c }
 {
-    if plane::bad_side(c.width) || plane::bad_side(c.height) || c.height < c.rows {
+    let height = c.height;
+    if plane::bad_side(c.width) | plane::bad_side(height) | (height < c.rows) {
         return true;
     }
     totals_past(c)

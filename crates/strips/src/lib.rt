@@ -42,7 +42,7 @@ pub fn start(depth: u64, width: usize, height: usize, carry: &mut [u64]) -> Resu
         return Err(Refusal::BadState);
     }
     plane::depth_fault(depth)?;
-    if plane::bad_side(width) || plane::bad_side(height) {
+    if plane::bad_side(width) | plane::bad_side(height) {
         return Err(Refusal::BadPlane);
     }
     let begun = Carry {
@@ -61,8 +61,8 @@ pub fn start(depth: u64, width: usize, height: usize, carry: &mut [u64]) -> Resu
 
 // A row from a place of the room on.
 fn lay_row<S: Sample>(room: &mut [S], at: usize, row: &[S])
-    requires { at + length row.now ≤ length room.old }
-    ensures { S.values room.new ≡ laid at (length row.now) (λ (k : ℕ). get_or (S.values row.now) k 0) (S.values room.old) }
+    requires { at + length (S.values row.now) ≤ length (S.values room.old) }
+    ensures { S.values room.new ≡ laid at (length (S.values row.now)) (λ (k : ℕ). get_or (S.values row.now) k 0) (S.values room.old) }
 {
     sums::copy(&mut room[at..], row);
 }
@@ -70,8 +70,8 @@ fn lay_row<S: Sample>(room: &mut [S], at: usize, row: &[S])
 // A row of each frame to its place in the room.
 fn hold_row<S: Sample>(c: Carry, y: usize, first: &[S], second: &[S], room: &mut [S])
     requires width_le_max_side { c.width ≤ max_side }
-    requires c_in_bounds { room_long c ≤ length room.old }
-    requires first_len { (length first.now ≡ c.width) × (length second.now ≡ c.width) }
+    requires c_in_bounds { room_long c ≤ length (S.values room.old) }
+    requires first_len { (length (S.values first.now) ≡ c.width) × (length (S.values second.now) ≡ c.width) }
     ensures { S.values room.new ≡ rows_laid c y (λ (k : ℕ). get_or (S.values first.now) k 0) (λ (k : ℕ). get_or (S.values second.now) k 0) (S.values room.old) }
 {
     let slot = y % BLOCK_SIDE;
@@ -83,12 +83,15 @@ fn hold_row<S: Sample>(c: Carry, y: usize, first: &[S], second: &[S], room: &mut
 // room can be refused, and then nothing is written and nothing rises.
 fn finish<S: Measured>(c: Carry, y: usize, room: &[S], costs: &mut [u32]) -> u64
     requires sound { Sound S.Depths.word c }
-    requires c_in_bounds { room_long c ≤ length room.now }
+    requires c_in_bounds { room_long c ≤ length (S.Sample.values room.now) }
     requires y_lt_max_side { y < max_side }
     requires c_in_bounds_2 { y * blocks_along c + blocks_along c ≤ length costs.old }
     ensures value { result ≡ blocks_rise S.Depths.word c (S.Sample.values room.now) }
+    ensures upper_bound { result < 2 ^ 42 }
     ensures costs_after { costs.new ≡ blocks_costs S.Depths.word c y (S.Sample.values room.now) costs.old }
 {
+    // No sample is above the largest, so the rise is small.
+    S::bounded(room);
     let p = shape::held_plane(c, 0);
     let q = shape::held_plane(c, BLOCK_SIDE * c.width);
     let at = y * (c.width / BLOCK_SIDE);
@@ -108,7 +111,7 @@ fn add_row<S: Measured>(
     room: &mut [S],
     costs: &mut [u32],
 ) -> u64
-    requires taken { Taken S.Depths.word c p (length a.now) q (length b.now) (length room.old) (length costs.old) }
+    requires taken { Taken S.Depths.word c p (length (S.Sample.values a.now)) q (length (S.Sample.values b.now)) (length (S.Sample.values room.old)) (length costs.old) }
     requires j_lt_height { j < p.height }
     ensures by_index { (t : ℕ) → held (t + result) (S.Sample.values room.new) costs.new ≡ held_row S.Depths.word c (strip p (S.Sample.values a.now) q (S.Sample.values b.now)) j (held t (S.Sample.values room.old) costs.old) }
     ensures upper_bound { result < 2 ^ 42 }
@@ -131,7 +134,7 @@ fn add_rows<S: Measured>(
     room: &mut [S],
     costs: &mut [u32],
 ) -> u64
-    requires { Taken S.Depths.word c p (length a.now) q (length b.now) (length room.old) (length costs.old) }
+    requires { Taken S.Depths.word c p (length (S.Sample.values a.now)) q (length (S.Sample.values b.now)) (length (S.Sample.values room.old)) (length costs.old) }
     ensures { held result (S.Sample.values room.new) costs.new ≡ held_rows S.Depths.word c (strip p (S.Sample.values a.now) q (S.Sample.values b.now)) p.height (held c.importance (S.Sample.values room.old) costs.old) }
 {
     let mut total = c.importance;
@@ -151,7 +154,7 @@ fn strip_difference<S: Measured>(
     q: Plane,
     b: &[S],
 ) -> Result<u64, Refusal>
-    requires b_value { 0 < p.height → shapes_fault S.Depths.word depth p (length a.now) q (length b.now) ≡ 0 }
+    requires b_value { 0 < p.height → shapes_fault S.Depths.word depth p (length (S.Sample.values a.now)) q (length (S.Sample.values b.now)) ≡ 0 }
     requires height_value { p.height ≡ q.height }
     ensures { answer_of result ≡ answered (refusal 16 (too_large depth p (S.Sample.values a.now) || too_large depth q (S.Sample.values b.now))) (plane_sad p (S.Sample.values a.now) q (S.Sample.values b.now)) }
 {
@@ -177,6 +180,9 @@ pub fn add<S: Measured>(
     let c = carry::fit_carry(carry)?;
     shape::shape_fault::<S>(c, p, a.len(), q, b.len(), room.len(), costs.len())?;
     let more = strip_difference(c.depth, p, a, q, b)?;
+    // No sample is above the largest, so the difference is small.
+    S::bounded(a);
+    S::bounded(b);
     let importance = add_rows(c, p, a, q, b, room, costs);
     let next = carry::came(c, p, more, importance);
     carry::put_carry(carry, next);

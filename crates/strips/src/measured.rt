@@ -1,8 +1,8 @@
 // A word of which every measure is taken that strips need: bytes and words of 16 bits.
-use importance::BlockSum;
+use importance::BlockMean;
 use sad::RowSad;
 
-pub trait Measured: RowSad + BlockSum {}
+pub trait Measured: RowSad + BlockMean {}
 
 impl Measured for u8 {}
 

@@ -20,7 +20,7 @@ fn too_many_rows(c: Carry, p: Plane) -> bool
 {
     let height = p.height;
     let left = c.height - c.rows;
-    MOST_ROWS < height || left < height
+    (MOST_ROWS < height) | (left < height)
 }
 
 // Refusal 1 or 2 of a strip over n samples. One without a row shows no sample, so none has to lie within.
@@ -31,7 +31,7 @@ fn strip_fault(p: Plane, n: usize) -> Result<(), Refusal>
     if p.height != 0 {
         return p.fault(n);
     }
-    if plane::bad_side(p.width) || p.stride < p.width {
+    if plane::bad_side(p.width) | (p.stride < p.width) {
         return Err(Refusal::BadPlane);
     }
     Ok(())
@@ -43,12 +43,14 @@ fn match_fault(c: Carry, p: Plane, q: Plane, room: usize, costs: usize) -> Resul
     requires { (c.width ≤ max_side) × (c.height ≤ max_side) }
     ensures { fault_in result ≡ match_fault c p q room costs }
 {
-    if p.width != q.width || p.height != q.height || p.width != c.width {
+    let width = p.width;
+    let own = c.width;
+    if (width != q.width) | (p.height != q.height) | (width != own) {
         return Err(Refusal::SizesDiffer);
     }
     let blocks = crate::carry::blocks(c);
     plane::block_fault(blocks)?;
-    if costs < blocks || room < 2 * BLOCK_SIDE * c.width {
+    if (costs < blocks) | (room < 2 * BLOCK_SIDE * own) {
         return Err(Refusal::NoRoom);
     }
     Ok(())
@@ -68,7 +70,7 @@ pub fn shape_fault<S: Depths>(
     requires { carry_unfit c ≡ false }
     ensures { fault_in result ≡ shape_fault (word_fault S.word c.depth) c p n q m room costs }
 {
-    if too_many_rows(c, p) || too_many_rows(c, q) {
+    if too_many_rows(c, p) | too_many_rows(c, q) {
         return Err(Refusal::TooManyRows);
     }
     plane::word_fault::<S>(c.depth)?;

@@ -1,66 +1,63 @@
 -- `strips::end` meets its contract: 11, 5, 19 and 18 in this order, and else what the carry holds. Assumes nothing.
 use native.Mathlib.Omega.{arith}
-use mathlib.Core.Path.{◌≡◌, sym, ap, ◌∙◌}
-use Rattle.answer.proofs.Laws.{answer_given, answer_refused}
+use borrow.Author.Rules.{rules}
+use mathlib.Core.Path.{◌≡◌, ap, ◌∙◌}
+use Rattle.std.specs.Prelude.{Err}
+use Rattle.answer.proofs.Laws.{answer_given, answer_refused, refused_is, number_some}
 use Rattle.plane.specs.Blocks.{block_fault}
 use Rattle.plane.specs.Planes.{depth_fault}
 use Rattle.strips.specs.declared.carry.Carry.{Carry}
-use Rattle.strips.specs.Carry.{carry_of, blocks_in, carry_fault}
+use Rattle.strips.specs.Carry.{blocks_in}
 use Rattle.strips.specs.Strips.{totals_of}
-use Rattle.strips.proofs.CarryLaws.{carry_passed, fit}
+use Rattle.strips.proofs.CarryLaws.{carry_given, fit}
 use Rattle.strips.proofs.ShapeLaws.{end_unfit, end_depth, end_blocks, end_early, ended}
 use Rattle.strips.proofs.end.Goals as goal
 
-pub returns-then-unfit-ne0 : goal.returns-then-unfit-ne0
-returns-then-unfit-ne0 c = answer_refused _ _ _ (end_unfit _ _ c.carry_fault-unfit.ensures c.if-unfit-ne0.true) c.if-unfit-ne0.true
+pub returns-in_err-c : goal.returns-in_err-c
+returns-in_err-c c =
+    let handed : c.from_residual.result ≡ Err c.in_err-c.field-0.0 = search rules in
+    let some = number_some c.in_err-c.field-0.0 in
+    rw handed (answer_refused _ _ _ (end_unfit _ _ (refused_is _ _ _ c.in_err-c.ensures) some) some)
 
-pub lent_carry-c-requires : goal.lent_carry-c-requires
-lent_carry-c-requires c =
-    -- past the first test the carry is one, and fit
-    let passes : 0 ≡ carry_fault c.args.carry.now = sym c.if-unfit-ne0.false ∙ c.carry_fault-unfit.ensures in
-    (carry_passed _ (sym passes)).0
-
-pub returns-then-fault-ne0 : goal.returns-then-fault-ne0
-returns-then-fault-ne0 c =
-    let passes : 0 ≡ carry_fault c.args.carry.now = sym c.if-unfit-ne0.false ∙ c.carry_fault-unfit.ensures in
-    answer_refused _ _ _ (end_depth _ passes _ (c.depth_fault-fault.ensures ∙ ap (λ (k : Carry). depth_fault k.depth) c.lent_carry-c.ensures) c.if-fault-ne0.true) c.if-fault-ne0.true
+pub returns-in_err-depth_fault : goal.returns-in_err-depth_fault
+returns-in_err-depth_fault c =
+    let handed : c.from_residual-in_err-depth_fault.result ≡ Err c.in_err-depth_fault.field-0.0 = search rules in
+    let some = number_some c.in_err-depth_fault.field-0.0 in
+    let k = carry_given _ _ c.in_ok-c.ensures in
+    rw handed (answer_refused _ _ _ (end_depth _ k.0 _ (c.in_err-depth_fault.ensures ∙ ap (λ (b : Carry). depth_fault b.depth) k.1) some) some)
 
 pub blocks-blocks-requires : goal.blocks-blocks-requires
 blocks-blocks-requires c =
-    let passes : 0 ≡ carry_fault c.args.carry.now = sym c.if-unfit-ne0.false ∙ c.carry_fault-unfit.ensures in
-    let f = fit (carry_of c.args.carry.now) (carry_passed _ (sym passes)).1 in
-    let width = ap (λ (k : Carry). k.width) c.lent_carry-c.ensures in
-    let height = ap (λ (k : Carry). k.height) c.lent_carry-c.ensures in
-    (omega (arith, width, f.width_most), omega (arith, height, f.height_most))
+    let f = fit _ (carry_given _ _ c.in_ok-c.ensures).2 in
+    (f.width_most, f.height_most)
 
-pub returns-then-none-ne0 : goal.returns-then-none-ne0
-returns-then-none-ne0 c =
-    let passes : 0 ≡ carry_fault c.args.carry.now = sym c.if-unfit-ne0.false ∙ c.carry_fault-unfit.ensures in
-    -- past the second the depth is one
-    let depth-known : 0 ≡ depth_fault (carry_of c.args.carry.now).depth = sym c.if-fault-ne0.false ∙ c.depth_fault-fault.ensures ∙ ap (λ (k : Carry). depth_fault k.depth) c.lent_carry-c.ensures in
-    -- the blocks that were counted are the carry's
-    let found : c.block_fault-none.result ≡ block_fault (blocks_in (carry_of c.args.carry.now)) = c.block_fault-none.ensures ∙ ap block_fault (c.blocks-blocks.ensures ∙ ap blocks_in c.lent_carry-c.ensures) in
-    answer_refused _ _ _ (end_blocks _ passes depth-known _ found c.if-none-ne0.true) c.if-none-ne0.true
+pub returns-in_err-block_fault : goal.returns-in_err-block_fault
+returns-in_err-block_fault c =
+    let handed : c.from_residual-in_err-block_fault.result ≡ Err c.in_err-block_fault.field-0.0 = search rules in
+    let some = number_some c.in_err-block_fault.field-0.0 in
+    let k = carry_given _ _ c.in_ok-c.ensures in
+    rw handed
+    (answer_refused _ _ _
+    (end_blocks _ k.0 (c.in_ok-depth_fault.ensures ∙ ap (λ (b : Carry). depth_fault b.depth) k.1) _
+    (c.in_err-block_fault.ensures ∙ ap block_fault (c.blocks-blocks.ensures ∙ ap blocks_in k.1)) some)
+    some)
 
--- the rows and the height that were read are the carry's
 pub returns-then-c : goal.returns-then-c
 returns-then-c c =
-    let passes : 0 ≡ carry_fault c.args.carry.now = sym c.if-unfit-ne0.false ∙ c.carry_fault-unfit.ensures in
-    let depth-known : 0 ≡ depth_fault (carry_of c.args.carry.now).depth = sym c.if-fault-ne0.false ∙ c.depth_fault-fault.ensures ∙ ap (λ (k : Carry). depth_fault k.depth) c.lent_carry-c.ensures in
-    let found : c.block_fault-none.result ≡ block_fault (blocks_in (carry_of c.args.carry.now)) = c.block_fault-none.ensures ∙ ap block_fault (c.blocks-blocks.ensures ∙ ap blocks_in c.lent_carry-c.ensures) in
-    -- past the third test there is one
-    let some : 0 ≡ block_fault (blocks_in (carry_of c.args.carry.now)) = sym c.if-none-ne0.false ∙ found in
-    let rows = ap (λ (k : Carry). k.rows) c.lent_carry-c.ensures in
-    let height = ap (λ (k : Carry). k.height) c.lent_carry-c.ensures in
-    answer_refused _ _ _ (end_early _ passes depth-known some (omega (arith, rows, height, c.if-c.true))) (λ z. omega arith)
+    let k = carry_given _ _ c.in_ok-c.ensures in
+    let rows = ap (λ (b : Carry). b.rows) k.1 in
+    let height = ap (λ (b : Carry). b.height) k.1 in
+    answer_refused _ _ _
+    (end_early _ k.0 (c.in_ok-depth_fault.ensures ∙ ap (λ (b : Carry). depth_fault b.depth) k.1)
+    (c.in_ok-block_fault.ensures ∙ ap block_fault (c.blocks-blocks.ensures ∙ ap blocks_in k.1)) (omega (arith, rows, height, c.if-c.true)))
+    (λ z. omega arith)
 
 pub returns : goal.returns
 returns c =
-    let passes : 0 ≡ carry_fault c.args.carry.now = sym c.if-unfit-ne0.false ∙ c.carry_fault-unfit.ensures in
-    let depth-known : 0 ≡ depth_fault (carry_of c.args.carry.now).depth = sym c.if-fault-ne0.false ∙ c.depth_fault-fault.ensures ∙ ap (λ (k : Carry). depth_fault k.depth) c.lent_carry-c.ensures in
-    let found : c.block_fault-none.result ≡ block_fault (blocks_in (carry_of c.args.carry.now)) = c.block_fault-none.ensures ∙ ap block_fault (c.blocks-blocks.ensures ∙ ap blocks_in c.lent_carry-c.ensures) in
-    let some : 0 ≡ block_fault (blocks_in (carry_of c.args.carry.now)) = sym c.if-none-ne0.false ∙ found in
-    let e = c.lent_carry-c.ensures in
-    let rows = ap (λ (k : Carry). k.rows) e in
-    let height = ap (λ (k : Carry). k.height) e in
-    answer_given _ _ _ (ended _ passes depth-known some (omega (arith, rows, height, c.if-c.false))) (rw c.blocks-blocks.ensures (ap totals_of e))
+    let k = carry_given _ _ c.in_ok-c.ensures in
+    let rows = ap (λ (b : Carry). b.rows) k.1 in
+    let height = ap (λ (b : Carry). b.height) k.1 in
+    answer_given _ _ _
+    (ended _ k.0 (c.in_ok-depth_fault.ensures ∙ ap (λ (b : Carry). depth_fault b.depth) k.1)
+    (c.in_ok-block_fault.ensures ∙ ap block_fault (c.blocks-blocks.ensures ∙ ap blocks_in k.1)) (omega (arith, rows, height, c.if-c.false)))
+    (rw c.blocks-blocks.ensures (ap totals_of k.1))

@@ -1,6 +1,0 @@
--- `strips::deep::lay_row` meets its contract: a copy into the part that starts at the place. Assumes nothing.
-use Rattle.strips.proofs.RowLaws.{laid_back}
-use Rattle.strips.proofs.deep.lay_row.Goals as goal
-
-pub returns : goal.returns
-returns c = laid_back _ _ _ _ c.requires _ c.copy.ensures
