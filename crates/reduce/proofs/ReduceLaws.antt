@@ -244,13 +244,6 @@ module _ (k h : ℕ) (half : Half h) (s l : List ℕ) (most : (i : ℕ) → get_
   group_most x x< =
       rw (group_is x x<, all, four_halves h, mul_assoc (2 * h) (2 * h) k) (square_most k (2 * h) s most (start + x * (2 * h)) stride)
 
-  -- 1,024 samples at most, and 1 at least
-  pub samples_some : 0 < samples
-  samples_some = rw (all, mul_assoc) (let some = mul-pos half.some half.some in omega arith)
-
-  pub samples_most : samples ≤ 1024
-  samples_most = rw (all, mul_assoc) (let few = mul-le-mul half.most half.most in omega arith)
-
   pub chunk_means : (out : List ℕ) → written (λ (x : ℕ). ltb x count) (λ (x : ℕ). mean_of samples (group_of l n x)) out ≡ written (λ (x : ℕ). ltb x (sum_count / h)) (mean_from (2 * h) s start stride) out
   chunk_means out =
       written_value (λ (x : ℕ). ltb x count) (λ (x : ℕ). mean_of samples (group_of l n x)) (mean_from (2 * h) s start stride) out
