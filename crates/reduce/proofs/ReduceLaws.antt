@@ -22,7 +22,7 @@ use Rattle.sums.specs.Sums.{sum_below}
 use Rattle.sums.specs.Table.{table}
 use Rattle.sums.specs.Written.{written}
 use Rattle.sums.proofs.MeanLaws.{mean_most}
-use Rattle.sums.proofs.SampleLaws.{values_take, values_drop}
+use Rattle.sums.proofs.SampleLaws.{length_values, values_take, values_drop}
 use Rattle.sums.proofs.SumLaws.{NextSum, sum_ext, sum_most, sum_more, sum_none, sum_swap, sum_pairs}
 use Rattle.sums.proofs.TableLaws.{table_at}
 use Rattle.sums.proofs.WrittenLaws.{written_value}
@@ -124,16 +124,18 @@ module _ (word : Word) (depth f : ℕ) (p : Plane) (s : List ℕ) (q : Plane) (r
 
 -- ---- sums of squares of 32 samples at most on each side: 32 bits hold them, of either word
 
--- a row that is lent as a part
-module _ {A : Type 0} {value : A → ℕ} {values : List A → List ℕ} (each : (s : List A) → values s ≡ map value s) (s : List A) where
-  pub lent_row : (start stride n j : ℕ) → start + j * stride + n ≤ length s → (t : List A) → t ≡ take (start + j * stride + n - (start + j * stride)) (drop (start + j * stride) s)
-      → sum_below (length t) (λ (i : ℕ). get_or (values t) i 0) ≡ row_from n (values s) start stride j
-  lent_row start stride n j h t e =
-      let at = start + j * stride in
-      let long : length t ≡ n = ap length e ∙ length-take-le (at + n - at) (drop at s) (omega (arith, length-drop at s)) ∙ omega arith in
-      let part : values t ≡ take (at + n - at) (drop at (values s)) = ap values e ∙ values_take each (at + n - at) (drop at s) ∙ ap (take (at + n - at)) (values_drop each at s) in
-      rw (long, part)
-      (sum_ext n _ _ (λ i i<. get_or-take (at + n - at) (drop at (values s)) i 0 (omega arith) ∙ get_or-drop at (values s) i 0))
+-- n places that are lent as a part
+pub lent_sum : (l : List ℕ) (at n : ℕ) → at + n ≤ length l → (t : List ℕ) → t ≡ take (at + n - at) (drop at l) → sum_below (length t) (λ (i : ℕ). get_or t i 0) ≡ sum_below n (λ (i : ℕ). get_or l (at + i) 0)
+lent_sum l at n h t e =
+    let long : length t ≡ n = ap length e ∙ length-take-le (at + n - at) (drop at l) (omega (arith, length-drop at l)) ∙ omega arith in
+    rw (long, e) (sum_ext n _ _ (λ i i<. get_or-take (at + n - at) (drop at l) i 0 (omega arith) ∙ get_or-drop at l i 0))
+
+-- the same of samples
+pub lent_row : {A : Type 0} {value : A → ℕ} {values : List A → List ℕ} → ((s : List A) → values s ≡ map value s) → (s : List A) (at n : ℕ) → at + n ≤ length s → (t : List A) → t ≡ take (at + n - at) (drop at s)
+    → sum_below (length t) (λ (i : ℕ). get_or (values t) i 0) ≡ sum_below n (λ (i : ℕ). get_or (values s) (at + i) 0)
+lent_row {A} {value} {values} each s at n h t e =
+    rw (← length_values each t)
+    (lent_sum (values s) at n (omega (arith, length_values each s)) (values t) (ap values e ∙ values_take each (at + n - at) (drop at s) ∙ ap (take (at + n - at)) (values_drop each at s)))
 
 module _ (k n : ℕ) (s : List ℕ) (l : (i : ℕ) → get_or s i 0 ≤ k) (word : k ≤ word_most) (few : n ≤ 32) where
   row_room : n * k ≤ 32 * word_most
@@ -241,13 +243,6 @@ module _ (k h : ℕ) (half : Half h) (s l : List ℕ) (most : (i : ℕ) → get_
   pub group_most : (x : ℕ) → x < count → group_of l n x ≤ samples * k
   group_most x x< =
       rw (group_is x x<, all, four_halves h, mul_assoc (2 * h) (2 * h) k) (square_most k (2 * h) s most (start + x * (2 * h)) stride)
-
-  -- 1,024 samples at most, and 1 at least
-  pub samples_some : 0 < samples
-  samples_some = rw (all, mul_assoc) (let some = mul-pos half.some half.some in omega arith)
-
-  pub samples_most : samples ≤ 1024
-  samples_most = rw (all, mul_assoc) (let few = mul-le-mul half.most half.most in omega arith)
 
   pub chunk_means : (out : List ℕ) → written (λ (x : ℕ). ltb x count) (λ (x : ℕ). mean_of samples (group_of l n x)) out ≡ written (λ (x : ℕ). ltb x (sum_count / h)) (mean_from (2 * h) s start stride) out
   chunk_means out =

@@ -1,11 +1,10 @@
--- Rows of squares: chunks that may overlap, where a row of the plane and of the reduced one lie, and what is written row by row. Of either
--- word. Assumes nothing.
-use mathlib.Core.Bool.{false, ◌||◌, not}
+-- Rows of squares: where a row of the plane and of the reduced one lie, and what is written row by row. Of either word. Assumes nothing.
+use mathlib.Core.Bool.{false, not}
 use mathlib.Core.List.{List}
 use mathlib.Core.Path.{◌≡◌, sym, ap, ◌∙◌}
-use Prim.Native.Nat.{ℕ, ◌+◌, ◌-◌, ◌*◌, ◌/◌, ◌%◌, ◌≤◌, ◌<◌, min}
+use Prim.Native.Nat.{ℕ, ◌+◌, ◌-◌, ◌*◌, ◌/◌, ◌%◌, ◌≤◌, ◌<◌}
 use native.Mathlib.Decide.{dec_lt}
-use native.Mathlib.Nat.{add-mul, zero-mul, mul_left_comm, mul-le-mul, mul-le-mul_right, min-eq_left, min-eq_right, div-mul-le_self, lt-div-mul-add}
+use native.Mathlib.Nat.{add-mul, zero-mul, mul-le-mul, mul-le-mul_right, div-mul-le_self}
 use native.Mathlib.Omega.{arith}
 use borrow.Author.Tests.{le-leb, lt-leb, lt-ltb, le-ltb, eqb-true, not-false}
 use borrow.Rule.Slice.PartMut.{put_mid}
@@ -31,7 +30,7 @@ use Rattle.std.specs.Prelude.{map}
 use Rattle.std.proofs.Common.{◌++◌, cond, subst, length-append, length-drop, length-take-le, get_or-take, get_or-drop, get_or-append-add}
 use lib.ListN.{get_or-append}
 use Rattle.reduce.specs.Reduce.{square_mean, row_at, column_at, not_reduced, reduced_after}
-use Rattle.reduce.specs.Needs.{sum_count, RowsIn, mean_from, Half}
+use Rattle.reduce.specs.Needs.{RowsIn, mean_from}
 use Rattle.reduce.proofs.ReduceLaws.{Fine, factor_small, mean_one}
 
 -- ---- a part of a list that is written whole
@@ -69,110 +68,11 @@ module _ (i n : ℕ) (h g : ℕ → ℕ) (s : List ℕ) (room : i + n ≤ length
       let long : length (table n h ++ drop n (drop i s)) ≡ length s - i = length-append (table n h) (drop n (drop i s)) ∙ omega (arith, length_table n h, length-drop n (drop i s), length-drop i s) in
       is_written (in_run i n) g s (take i s ++ rest) (length-append (take i s) rest ∙ omega (arith, front, long)) (λ k _. at_place k (dec_lt k i) (dec_lt k (i + n)))
 
--- ---- chunks
-
--- the first m places, and a run that begins among them or right behind them
-run_over : (m start n k : ℕ) → start ≤ m → m ≤ start + n → ltb k m || in_run start n k ≡ ltb k (start + n)
-run_over m start n k h i = go (dec_lt k m) (dec_lt k (start + n))
-  where
-    go : Dec (k < m) → Dec (k < start + n) → ltb k m || in_run start n k ≡ ltb k (start + n)
-    go (yes l) d = rw (lt-ltb k m l, lt-ltb k (start + n) (omega arith))
-    go (no p) (yes l) = rw (le-ltb k m (omega arith), le-leb start k (omega arith), lt-ltb k (start + n) l)
-    go (no p) (no q) = rw (le-ltb k m (omega arith), le-leb start k (omega arith), le-ltb k (start + n) (omega arith))
-
--- how many places c chunks have covered
-abbrev pub covered : ℕ → ℕ → ℕ → ℕ
-covered per count c = min (c * per) count
-
-module _ (per count : ℕ) (some : 0 < per) (room : per ≤ count) where
-  -- a turn's chunk begins before the last place
-  turn_in : (c : ℕ) → c < (count - 1) / per + 1 → c * per < count
-  turn_in c h =
-      let few : c ≤ (count - 1) / per = omega arith in
-      omega (arith, mul-le-mul_right per few, div-mul-le_self (count - 1) per)
-
-  -- it lies within the places, and covers its own
-  turn_covers : (c : ℕ) → c * per < count → let x = min (c * per) (count - per) in (x + per ≤ count) × ((k : ℕ) → ltb k (covered per count c) || in_run x per k ≡ ltb k (covered per count (c + 1)))
-  turn_covers c h = go (dec_lt (count - per) (c * per))
-    where
-      next : (c + 1) * per ≡ c * per + per
-      next = omega (arith, add-mul c 1 per)
-
-      so_far : covered per count c ≡ c * per
-      so_far = min-eq_left (omega arith)
-
-      go : Dec (count - per < c * per) → let x = min (c * per) (count - per) in (x + per ≤ count) × ((k : ℕ) → ltb k (covered per count c) || in_run x per k ≡ ltb k (covered per count (c + 1)))
-      go (yes l) =
-          let back : min (c * per) (count - per) ≡ count - per = min-eq_right (omega arith) in
-          let all : count - per + per ≡ count = omega arith in
-          let done : covered per count (c + 1) ≡ count = min-eq_right (omega (arith, next)) in
-          rw (back, so_far, done) (omega arith, λ k. run_over (c * per) (count - per) per k (omega arith) (omega arith) ∙ ap (ltb k) all)
-      go (no m) =
-          let here : min (c * per) (count - per) ≡ c * per = min-eq_left (omega arith) in
-          let done : covered per count (c + 1) ≡ c * per + per = min-eq_left (omega (arith, next)) ∙ next in
-          rw (here, so_far, done) (omega arith, λ k. run_over (c * per) (c * per) per k (omega arith) (omega arith))
-
-  -- none before the first turn, and after the last all
-  pub none_covered : covered per count 0 ≡ 0
-  none_covered = ap (λ (i : ℕ). min i count) (zero-mul per) ∙ min-eq_left (omega arith)
-
-  pub all_covered : covered per count ((count - 1) / per + 1) ≡ count
-  all_covered = min-eq_right (omega (arith, lt-div-mul-add {a = count - 1} some, add-mul ((count - 1) / per) 1 per))
-
--- the squares of a chunk that begins with square x
-pub mean_shift : (f : ℕ) (s : List ℕ) (start stride x k : ℕ) → mean_from f s (start + x * f) stride k ≡ mean_from f s start stride (x + k)
-mean_shift f s start stride x k =
-    let place : start + x * f + k * f ≡ start + (x + k) * f = omega (arith, add-mul x k f) in
-    ap (λ (i : ℕ). mean_of (f * f) (square_from f s i stride)) place
-
--- a chunk is 128 columns, which lie within the rows of all squares
-pub half_some : (h : ℕ) → Half h → 0 < sum_count / h
-half_some h half = go (dec_lt 0 (sum_count / h))
-  where
-    go : Dec (0 < sum_count / h) → 0 < sum_count / h
-    go (yes l) = l
-    go (no m) =
-        let none : sum_count / h ≡ 0 = omega arith in
-        let lost : 0 * h ≡ sum_count = ap (λ (i : ℕ). i * h) (sym none) ∙ half.whole in
-        absurd (omega (arith, lost))
-
-chunk_in : (h start stride count x most : ℕ) → Half h → x + sum_count / h ≤ count → RowsIn start stride (2 * h) (count * (2 * h)) most
-    → RowsIn (start + x * (2 * h)) stride (2 * h) (2 * sum_count) most
-chunk_in h start stride count x most half room rows =
-    let wide = mul-le-mul_right (2 * h) room in
-    let parts = add-mul x (sum_count / h) (2 * h) in
-    let whole : sum_count / h * (2 * h) ≡ 2 * (sum_count / h * h) = mul_left_comm (sum_count / h) 2 h in
-    let chunk = half.whole in
-    record { rows = λ j j<. let row = rows.rows j j< in omega arith }
+-- ---- squares side by side
 
 -- rows begin with the first of them
 pub first_in : (start stride m n most : ℕ) → 0 < m → RowsIn start stride m n most → start + n ≤ most
 first_in start stride m n most some rows = omega (arith, rows.rows 0 some, zero-mul stride)
-
--- a turn of the chunks of a row: where its chunk lies, and what it covers
-pub record ChunkTurn (h start stride count most c x : ℕ) : Type 0 where
-  pub ends : x + sum_count / h ≤ count
-  pub begins : start + x * (2 * h) ≤ most
-  pub rows : RowsIn (start + x * (2 * h)) stride (2 * h) (2 * sum_count) most
-  pub covers : (k : ℕ) → ltb k (covered (sum_count / h) count c) || in_run x (sum_count / h) k ≡ ltb k (covered (sum_count / h) count (c + 1))
-
-pub chunk_turn : (h start stride count most c x : ℕ) → Half h → sum_count / h ≤ count → RowsIn start stride (2 * h) (count * (2 * h)) most
-    → c < (count - 1) / (sum_count / h) + 1 → x ≡ min (c * (sum_count / h)) (count - sum_count / h) → ChunkTurn h start stride count most c x
-chunk_turn h start stride count most c x half room rows c< e =
-    let per = sum_count / h in
-    let some = half_some h half in
-    let t = turn_covers per count some room c (turn_in per count some room c c<) in
-    let ends : x + per ≤ count = rw e t.0 in
-    let few : x ≤ count = omega arith in
-    let wide : 0 < 2 * h = omega (arith, half.some) in
-    record {
-      ends = ends;
-      begins = omega (arith, first_in start stride (2 * h) (count * (2 * h)) most wide rows, mul-le-mul_right (2 * h) few);
-      rows = chunk_in h start stride count x most half ends rows;
-      covers = rw e t.1;
-    }
-
--- ---- squares side by side
 
 -- a square lies within the rows of all of them
 pub square_in : (f start stride count x most : ℕ) → x < count → RowsIn start stride f (count * f) most → RowsIn (start + x * f) stride f f most

@@ -3,13 +3,12 @@
 ghost use Rattle.std.specs.Prelude.{◌≡◌, ℕ, ◌+◌, ◌*◌, ◌/◌, ◌≤◌, ◌<◌, ◌^◌, ltb, length, get_or};
 ghost use Rattle.sums.specs.Means.{mean_of};
 ghost use Rattle.sums.specs.Needs.{byte_most};
-ghost use Rattle.sums.specs.Sums.{sum_below};
 ghost use Rattle.sums.specs.Table.{table};
 ghost use Rattle.sums.specs.Written.{written};
 ghost use Rattle.reduce.specs.Needs.{sum_count, lane_count, RowsIn, pair_at, pairs_from, group_of, mean_from, Half};
 
-use crate::PutRow;
-use crate::squares::put_squares;
+use crate::ReduceRow;
+use crate::squares::{put_squares, sum_row};
 
 // How many sums a chunk has, how many are taken at once, and in how many turns.
 const SUMS: usize = 64;
@@ -67,30 +66,19 @@ fn add_all(sums: &mut [u16], s: &[u8], start: usize, stride: usize, half: usize)
     }
 }
 
-// The sum of n sums from a place on.
-fn sum_of(sums: &[u16], at: usize, n: usize) -> u32
-    requires n_in_bounds { at + n ≤ length sums.now }
-    requires n_le_sum_count { n ≤ sum_count }
-    ensures { result ≡ sum_below n (λ (i : ℕ). get_or sums.now (at + i) 0) }
-{
-    let mut sum: u32 = 0;
-    for i in 0..n {
-        sum += sums[at + i] as u32;
-    }
-    sum
-}
-
 // The means of groups of n sums, a group's sums being of so many samples.
 fn put_means(out: &mut [u8], sums: &[u16], count: usize, n: usize, samples: u32)
     requires count_in_bounds { count ≤ length out.old }
     requires n_in_bounds { count * n ≤ length sums.now }
-    requires n_le_sum_count { n ≤ sum_count }
+    requires few { n ≤ 32 }
     requires samples_nonzero { (0 < samples) × (samples ≤ 1024) }
     requires by_index { (x : ℕ) → x < count → group_of sums.now n x ≤ samples * byte_most }
     ensures { out.new ≡ written (λ (k : ℕ). ltb k count) (λ (x : ℕ). mean_of samples (group_of sums.now n x)) out.old }
 {
     for x in 0..count {
-        out[x] = ((sum_of(sums, x * n, n) + samples / 2) / samples) as u8;
+        let at = x * n;
+        let sum = sum_row(&sums[at..at + n]);
+        out[x] = ((sum + samples / 2) / samples) as u8;
     }
 }
 
@@ -128,7 +116,7 @@ fn put_chunks(out: &mut [u8], s: &[u8], start: usize, stride: usize, half: usize
     }
 }
 
-impl PutRow for u8 {
+impl ReduceRow for u8 {
     // In chunks, and one by one where the squares of a row are not so many.
     fn put_row(out: &mut [u8], s: &[u8], start: usize, stride: usize, factor: usize) {
         let half = factor / 2;

@@ -15,10 +15,10 @@ mod row;
 mod squares;
 mod word;
 
-pub use row::PutRow;
+pub use row::ReduceRow;
 
 // All rows of squares of a plane and a lent one that are not refused.
-fn reduce_plane<S: PutRow>(factor: usize, p: Plane, s: &[S], q: Plane, reduced: &mut [S])
+fn reduce_plane<S: ReduceRow>(factor: usize, p: Plane, s: &[S], q: Plane, reduced: &mut [S])
     requires factor_value { bad_factor factor ≡ false }
     requires s_value { plane_fault p (length s.now) ≡ 0 }
     requires reduced_value { plane_fault q (length reduced.old) ≡ 0 }
@@ -113,7 +113,7 @@ fn reduce_fault<S: Depths>(
 
 // A plane reduced by a factor into a lent plane of the reduced sides, or the refusal. Each visible sample of the lent plane becomes the
 // mean of its square, rounded to the nearest, a half up. A refused call writes nothing.
-pub fn reduce<S: PutRow>(
+pub fn reduce<S: ReduceRow>(
     depth: u64,
     factor: usize,
     p: Plane,

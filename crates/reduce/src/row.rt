@@ -6,7 +6,7 @@ ghost use Rattle.reduce.specs.Needs.{RowsIn, mean_from};
 
 use plane::Depths;
 
-pub trait PutRow: Depths {
+pub trait ReduceRow: Depths {
     // The means of squares side by side, from a place on, by a factor above 1.
     fn put_row(out: &mut [Self], s: &[Self], start: usize, stride: usize, factor: usize)
         requires factor_value { bad_factor factor ≡ false }
@@ -16,7 +16,7 @@ pub trait PutRow: Depths {
 }
 
 // A row of squares: with a factor of 1 the samples themselves.
-pub fn reduce_row<S: PutRow>(out: &mut [S], s: &[S], start: usize, stride: usize, factor: usize)
+pub fn reduce_row<S: ReduceRow>(out: &mut [S], s: &[S], start: usize, stride: usize, factor: usize)
     requires factor_value { bad_factor factor ≡ false }
     requires rows_in { RowsIn start stride factor (length out.old * factor) (length s.now) }
     ensures { S.Sample.values out.new ≡ table (length out.old) (mean_from factor (S.Sample.values s.now) start stride) }

@@ -8,7 +8,7 @@ ghost use Rattle.reduce.specs.Needs.{RowsIn, mean_from};
 use sums::Sample;
 
 // The sum of a square's row.
-fn sum_row<S: Sample>(row: &[S]) -> u32
+pub fn sum_row<S: Sample>(row: &[S]) -> u32
     requires few { length row.now ≤ 32 }
     ensures { result ≡ sum_below (length row.now) (slice_index (S.values row.now)) }
 {

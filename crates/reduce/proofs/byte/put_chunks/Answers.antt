@@ -4,7 +4,7 @@ use Rattle.sums.specs.Written.{written}
 use Rattle.sums.proofs.WrittenLaws.{prefix_all}
 use Rattle.sums.proofs.Wrote.{wrote_none, wrote_part, wrote_all}
 use Rattle.reduce.specs.Needs.{sum_count, mean_from}
-use Rattle.reduce.proofs.RowLaws.{covered, none_covered, all_covered, chunk_turn, half_some, mean_shift}
+use Rattle.reduce.proofs.ChunkLaws.{covered, none_covered, all_covered, chunk_turn, half_some, mean_shift}
 use Rattle.reduce.proofs.byte.put_chunks.Goals as goal
 
 pub loop-c-init : goal.loop-c-init

@@ -2,7 +2,7 @@
 use Rattle.std.proofs.Common.{ℕ, ◌*◌, ltb, length}
 use Rattle.sums.proofs.Wrote.{Wrote}
 use Rattle.reduce.specs.Needs.{mean_from}
-use Rattle.reduce.proofs.RowLaws.{covered}
+use Rattle.reduce.proofs.ChunkLaws.{covered}
 use Rattle.reduce.proofs.byte.put_chunks.Given as goal
 
 abbrev pub invariant-loop-c : goal.invariant-loop-c

@@ -1,5 +1,5 @@
 -- `reduce::squares::sum_square` meets its contract. After a turn one row more is added, and the sum fits. Assumes nothing.
-use Rattle.std.proofs.Common.{◌^◌, ◌∙◌, refl, arith}
+use Rattle.std.proofs.Common.{◌+◌, ◌*◌, ◌^◌, ◌∙◌, refl, arith}
 use Rattle.plane.specs.Needs.{row_from}
 use Rattle.sums.proofs.SumLaws.{NextSum, sum_none}
 use Rattle.reduce.proofs.ReduceLaws.{square_turn, lent_row}
@@ -16,7 +16,7 @@ next g c =
     let s = c.args in
     let j = c.loop-j.j in
     square_turn g.S.Sample.most s.n (g.S.Sample.values s.s.now) c.bounded.ensures g.met.S.Sample.narrow c.requires.n_bound s.start s.stride j c.loop-j.sum c.sum_row-sum.result
-    (omega arith) c.loop-j.invariant (c.sum_row-sum.ensures ∙ lent_row g.met.S.Sample.each s.s.now s.start s.stride s.n j (c.requires.rows_in.rows j (omega arith)) _ refl)
+    (omega arith) c.loop-j.invariant (c.sum_row-sum.ensures ∙ lent_row g.met.S.Sample.each s.s.now (s.start + j * s.stride) s.n (c.requires.rows_in.rows j (omega arith)) _ refl)
 
 pub overflow_add-sum : goal.overflow_add-sum
 overflow_add-sum g c = let n = next g c in omega (arith, n.1)

@@ -5,7 +5,7 @@ use lib.ListN.{length}
 use Rattle.sums.specs.Table.{table}
 use Rattle.reduce.specs.Needs.{RowsIn, mean_from}
 use Rattle.reduce.proofs.ReduceLaws.{factor_small, factor_half}
-use Rattle.reduce.proofs.byte.U8PutRow.put_row.Goals as goal
+use Rattle.reduce.proofs.byte.U8ReduceRow.put_row.Goals as goal
 
 pub nonzero_div-half-2 : goal.nonzero_div-half-2
 nonzero_div-half-2 c = (factor_half _ c.requires.factor_value c.requires.factor_above).1.some

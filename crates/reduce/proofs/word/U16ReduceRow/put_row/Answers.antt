@@ -6,7 +6,7 @@ use native.Mathlib.Omega.{arith}
 use Rattle.sums.specs.Table.{table}
 use Rattle.reduce.specs.Needs.{RowsIn, mean_from}
 use Rattle.reduce.proofs.ReduceLaws.{factor_small, factor_arms}
-use Rattle.reduce.proofs.word.U16PutRow.put_row.Goals as goal
+use Rattle.reduce.proofs.word.U16ReduceRow.put_row.Goals as goal
 
 -- a factor stands in its arm as the number g
 module _ (f g : ℕ) (e : f ≡ g) (start stride count : ℕ) where
