@@ -1,11 +1,11 @@
 -- A pair number and five doubles for each score: reading and writing one score more. Assumes nothing.
 use mathlib.Core.Path.{◌≡◌, refl, sym, ap, ◌∙◌}
 use mathlib.Core.List.{List, [], ◌∷◌, ◌++◌}
-use Prim.Native.Nat.{ℕ, zero, suc, ◌+◌, ◌*◌, ◌≤◌, ◌<◌, min}
+use Prim.Native.Nat.{ℕ, zero, suc, ◌+◌, ◌*◌, ◌<◌, min}
 use native.Mathlib.Numerals.{add-one}
 use native.Mathlib.Omega.{arith}
-use lib.Ieee.{Float, nan}
-use lib.ListN.{length, take, drop, get_or, get_or-append, set}
+use lib.Ieee.{Float}
+use lib.ListN.{length, take, drop, get_or, set}
 use lib.Seq.{take-suc, take-suc-set, drop-drop, get_or-drop}
 use Rattle.settings.specs.Settings.{room}
 use Rattle.score.specs.declared.ScenecutResult.{ScenecutResult}
@@ -30,11 +30,6 @@ score_at (suc k) (suc i) ps xs h =
     score_at k i (drop 1 ps) (drop score_long xs) (omega arith)
     ∙ rw (get_or-drop 1 ps i 0, n) (ap (front_score (get_or ps (suc i) 0)) (drop-drop (i * score_long) score_long xs ∙ ap (λ (n : ℕ). drop n xs) e))
 
--- a score is read from its own doubles
-pub front_of : (pair : ℕ) (xs rest : List Float) → length xs ≡ score_long → front_score pair (xs ++ rest) ≡ front_score pair xs
-front_of pair xs rest h =
-    rw (get_or-append xs rest nan 0 (omega arith), get_or-append xs rest nan 1 (omega arith), get_or-append xs rest nan 2 (omega arith), get_or-append xs rest nan 3 (omega arith), get_or-append xs rest nan 4 (omega arith))
-
 -- one score more is read
 pub read_more : (out : List ScenecutResult) (ps : List ℕ) (xs : List Float) (i : ℕ) → length out ≡ room → i < room → take i out ≡ take i (scores_of room ps xs)
     → take (i + 1) (set out i (front_score (get_or ps i 0) (drop (i * score_long) xs))) ≡ take (i + 1) (scores_of room ps xs)
@@ -43,11 +38,6 @@ read_more out ps xs i n h e =
     rw add-one
     (take-suc-set out i (front_score (get_or ps i 0) (drop (i * score_long) xs)) (omega arith)
     ∙ rw (e, ← score_at room i ps xs h) (sym (take-suc (scores_of room ps xs) i no_score l)))
-
--- after i of c scores, with n to come: where none comes though there are more, the room is full
-pub all_read : (n i c : ℕ) → n + i ≡ c → i ≤ room → (0 < n → room ≤ i) → i ≡ min c room
-all_read zero i c e h f = omega arith
-all_read (suc n) i c e h f = let k = f (omega arith) in omega arith
 
 -- as many as there is room for are all
 pub read_all : (c : ℕ) (out : List ScenecutResult) (ps : List ℕ) (xs : List Float) → length out ≡ room → take (min c room) out ≡ take (min c room) (scores_of room ps xs)

@@ -58,7 +58,8 @@ fn front_score(pair: u64, s: &[f64]) -> ScenecutResult
     ScenecutResult::new(pair, s[0], s[1], s[2], s[3], s[4])
 }
 
-// The deque whose entries are the first `count` scores: no place past them is read.
+// The deque whose entries are the first `count` scores: no place past them is read. By index: with `zip` and `chunks_exact` a step
+// takes a quarter longer.
 fn lent_deque(numbers: &[u64; NUMBERS], scores: &[f64; SCORES], count: usize) -> ScoreDeque
     ensures result_value { content result ≡ entries_of count (drop pairs_place numbers.now) scores.now }
     ensures count_value { result.count ≡ count }
@@ -66,9 +67,9 @@ fn lent_deque(numbers: &[u64; NUMBERS], scores: &[f64; SCORES], count: usize) ->
     let none = ScenecutResult::new(0, 0.0, 0.0, 0.0, 0.0, 0.0);
     let entries = [none; Settings::ROOM];
     let mut out = ScoreDeque { entries, count };
-    let lent = numbers[PAIRS..].iter().zip(scores.chunks_exact(DOUBLES));
-    for (i, (pair, doubles)) in lent.take(count).enumerate() {
-        out.entries[i] = front_score(*pair, doubles);
+    for i in 0..count.min(Settings::ROOM) {
+        let at = i * DOUBLES;
+        out.entries[i] = front_score(numbers[PAIRS + i], &scores[at..]);
     }
     out
 }
