@@ -77,20 +77,17 @@ impl Reading<'_> {
                 again: false,
             };
         }
-        if 0 < o && o + 1 < length {
-            let deque = self.items_scored(o, o, d);
-            return Progress {
-                deque,
-                offset: o,
-                again: false,
-            };
-        }
-        let at = length - 2;
-        let deque = self.items_scored(o, length - 1, d);
+        let ahead = 0 < o && o + 1 < length;
+        let (items, at) = if ahead {
+            (o, o)
+        } else {
+            (length - 1, length - 2)
+        };
+        let deque = self.items_scored(o, items, d);
         Progress {
             deque,
             offset: at,
-            again: true,
+            again: !ahead,
         }
     }
 

@@ -41,14 +41,18 @@ pub fn run(
 ) -> Stepped
     ensures { outcome result ≡ run_of (outcome before) (calls_of numbers.now lengths.now keyframes.now inter.now importance.now threshold.now) }
 {
-    let calls = numbers.len().min(lengths.len()).min(keyframes.len());
     let mut last = before;
-    for j in 0..calls {
-        let items = state::items_of(lengths[j]);
+    for (j, ((number, length), keyframe)) in numbers
+        .iter()
+        .zip(lengths)
+        .zip(keyframes)
+        .enumerate()
+    {
+        let items = state::items_of(*length);
         let c = Call {
-            length: lengths[j],
-            number: numbers[j],
-            keyframe: keyframes[j],
+            length: *length,
+            number: *number,
+            keyframe: *keyframe,
             inter: window(inter, j, items),
             importance: window(importance, j, items),
             threshold: window(threshold, j, items),

@@ -1,7 +1,8 @@
 -- Sums and means of blocks, over the largest sample k: what each loop knows after a turn. Assumes nothing.
 use mathlib.Core.List.{List}
-use mathlib.Core.Path.{◌≡◌, refl, sym, ◌∙◌}
+use mathlib.Core.Path.{◌≡◌, sym, ◌∙◌}
 use Prim.Native.Nat.{ℕ, ◌+◌, ◌-◌, ◌*◌, ◌≤◌, ◌<◌, ◌^◌}
+use native.Mathlib.Nat.{mul-le-mul_right}
 use native.Mathlib.Omega.{arith}
 use lib.ListN.{length, get_or, take, drop}
 use Rattle.plane.specs.Blocks.{block_side, blocks_across, blocks_down, block_count, block_row}
@@ -10,45 +11,27 @@ use Rattle.plane.specs.Planes.{Word, sizes_fault}
 use Rattle.plane.specs.declared.Plane.{Plane}
 use Rattle.plane.proofs.BlockLaws.{count_most, row_starts, block_from}
 use Rattle.plane.proofs.PlaneLaws.{Pair, pair, total_fits}
-use Rattle.plane.proofs.SquareLaws.{part_sum, row_next, square_next, square_is, square_most}
+use Rattle.plane.proofs.SquareLaws.{part_sum, square_is, square_most}
 use Rattle.sums.specs.Sums.{sum_below, apart}
 use Rattle.sums.proofs.MeanLaws.{mean_most}
-use Rattle.sums.proofs.SumLaws.{sum_ext, sum_most, sum_to, NextSum, next_sum}
+use Rattle.sums.proofs.SumLaws.{sum_more, sum_ext, sum_most, sum_to}
 use Rattle.importance.specs.Importance.{block_sum, mean, block_difference, blocks_difference, importance_total, importance_fault}
+use Rattle.importance.specs.Needs.{SmallRows, SmallBlocks}
+use Rattle.importance.proofs.FourRows.{small_block}
 use Rattle.importance.proofs.Refusals.{one_size}
 
 -- ---- one block
 
--- a part's first samples after i of them, and a block after j rows
-abbrev pub RowSum : List ℕ → ℕ → ℕ → Type 0
-RowSum s sum i = (i ≤ block_side) × (sum ≡ sum_below i (λ (n : ℕ). get_or s n 0))
+-- row j of a block lies within the samples, as the last one does
+pub row_in : (s : List ℕ) (start stride j : ℕ) → start + 7 * stride + block_side ≤ length s → j < block_side → start + j * stride + block_side ≤ length s
+row_in s start stride j h j< = let k : j * stride ≤ 7 * stride = mul-le-mul_right stride (omega arith) in omega arith
 
-abbrev pub SquareSum : List ℕ → ℕ → ℕ → ℕ → ℕ → Type 0
-SquareSum s start stride sum j = (j ≤ block_side) × (sum ≡ sum_below j (row_from block_side s start stride))
-
--- row j of a block lies within the samples
-abbrev pub RowIn : List ℕ → ℕ → ℕ → ℕ → Type 0
-RowIn s start stride j = start + j * stride + block_side ≤ length s
-
--- one turn, in a room that a block's sum fits
-abbrev pub RowTurn : ℕ → List ℕ → ℕ → ℕ → Type 0
-RowTurn room s sum i = RowSum s (sum + get_or s i 0) (i + 1) × (sum + get_or s i 0 < room)
-
-abbrev pub SquareTurn : ℕ → List ℕ → ℕ → ℕ → ℕ → ℕ → ℕ → Type 0
-SquareTurn room s start stride sum part j = SquareSum s start stride (sum + part) (j + 1) × (sum + part < room)
-
-module _ (k room : ℕ) (fits : 64 * k < room) (s : List ℕ) (l : (i : ℕ) → get_or s i 0 ≤ k) where
-  pub row_turn : (sum i : ℕ) → RowSum s sum i → i < block_side → RowTurn room s sum i
-  row_turn sum i h i< =
-      let next = row_next k block_side s l room (λ (n : ℕ). n) (omega arith) i sum (get_or s i 0) i< h.1 refl in
-      ((omega arith, next.0), next.1)
-
-  pub square_turn : (start stride sum part j : ℕ) → SquareSum s start stride sum j → j < block_side → RowIn s start stride j
-      → part ≡ sum_below block_side (λ (i : ℕ). get_or (take (length s - (start + j * stride)) (drop (start + j * stride) s)) i 0)
-      → SquareTurn room s start stride sum part j
-  square_turn start stride sum part j h j< inside e =
-      let next = square_next k block_side s l room start stride (omega arith) j sum part j< h.1 (e ∙ part_sum s (start + j * stride) block_side inside) in
-      ((omega arith, next.0), next.1)
+-- the sum of j rows and of one more, a part's first samples
+pub square_more : (s : List ℕ) (start stride j sum part : ℕ) → sum ≡ sum_below j (row_from block_side s start stride) → start + j * stride + block_side ≤ length s
+    → part ≡ sum_below block_side (λ (i : ℕ). get_or (take (length s - (start + j * stride)) (drop (start + j * stride) s)) i 0)
+    → sum + part ≡ sum_below (j + 1) (row_from block_side s start stride)
+square_more s start stride j sum part h inside e =
+    omega (arith, h, e ∙ part_sum s (start + j * stride) block_side inside, sum_more j (row_from block_side s start stride))
 
 module _ (k : ℕ) (s : List ℕ) (l : (i : ℕ) → get_or s i 0 ≤ k) where
   -- a block's sum, by its place and as the plane's own
@@ -65,13 +48,15 @@ means_most k m n h i = let a = mean_most k 64 m (omega arith) h in let b = mean_
 -- ---- a row of blocks
 
 -- row y of blocks of two planes that are not refused, by the places where it starts
-pub record BlocksRow (k : ℕ) (p : Plane) (a : List ℕ) (q : Plane) (b : List ℕ) (y start start2 : ℕ) : Type 0 where
-  pub small : k < 2 ^ 16
-  pub most : (i : ℕ) → get_or a i 0 ≤ k
-  pub most2 : (i : ℕ) → get_or b i 0 ≤ k
+pub record BlocksRow (p : Plane) (a : List ℕ) (q : Plane) (b : List ℕ) (y start start2 : ℕ) : Type 0 where
   pub given : (sizes_fault p (length a) q (length b) ≡ 0) × (y < blocks_down p)
   pub starts : start ≡ block_row p (length a) y
   pub starts2 : start2 ≡ block_row q (length b) y
+
+-- as the code finds them, by the numbers of the samples
+pub blocks_row : {p : Plane} {a : List ℕ} {q : Plane} {b : List ℕ} {y n m start start2 : ℕ} → sizes_fault p (length a) q (length b) ≡ 0 → y < blocks_down p
+    → length a ≡ n → start ≡ block_row p n y → length b ≡ m → start2 ≡ block_row q m y → BlocksRow p a q b y start start2
+blocks_row h l e s d t = record { given = (h, l); starts = rw e s; starts2 = rw d t }
 
 -- the difference of block x, and the sum of the first x
 abbrev gap_of : List ℕ → ℕ → ℕ → List ℕ → ℕ → ℕ → ℕ → ℕ
@@ -81,41 +66,41 @@ gap_of a start step b start2 step2 x =
 abbrev pub GapSum : List ℕ → ℕ → ℕ → List ℕ → ℕ → ℕ → ℕ → ℕ → Type 0
 GapSum a start step b start2 step2 total x = total ≡ sum_below x (gap_of a start step b start2 step2)
 
-module _ {k : ℕ} {p : Plane} {a : List ℕ} {q : Plane} {b : List ℕ} {y start start2 : ℕ} (r : BlocksRow k p a q b y start start2) where
+module _ {p : Plane} {a : List ℕ} {q : Plane} {b : List ℕ} {y start start2 : ℕ} (r : BlocksRow p a q b y start start2) where
   planes : Pair p (length a) q (length b)
   planes = pair p (length a) q (length b) r.given.0
 
-  -- block x lies within the samples of both planes
-  abbrev pub BlocksIn : ℕ → Type 0
-  BlocksIn x =
-      (j : ℕ) → j < block_side
-      → (start + x * block_side + j * p.stride + block_side ≤ length a) × (start2 + x * block_side + j * q.stride + block_side ≤ length b)
+  -- block x lies within the samples of both planes, and so no sum is too large that leads to a place in it
+  pub record BlocksIn (x : ℕ) : Type 0 where
+    pub first : start + x * block_side + 7 * p.stride + block_side ≤ length a
+    pub second : start2 + x * block_side + 7 * q.stride + block_side ≤ length b
 
-  pub blocks_in_lem : (x : ℕ) → x < blocks_across p → BlocksIn x
-  blocks_in_lem x x< j j< =
+  pub blocks_in : (x : ℕ) → x < blocks_across p → BlocksIn x
+  blocks_in x x< =
+      let h = planes in
+      record {
+        first = block_from p (length a) y start h.first r.given.1 r.starts x x< 7 (omega arith);
+        second = block_from q (length b) y start2 h.second (omega (arith, r.given.1, h.heights)) r.starts2 x (omega (arith, h.widths)) 7 (omega arith);
+      }
+
+  -- and where no sample of the row of blocks is large, none of its own is
+  pub blocks_small : SmallBlocks p a y × SmallBlocks q b y → (x : ℕ) → x < blocks_across p
+      → SmallRows a (start + x * block_side) p.stride block_side × SmallRows b (start2 + x * block_side) q.stride block_side
+  blocks_small m x x< =
       let h = planes in (
-        block_from p (length a) y start h.first r.given.1 r.starts x x< j j<,
-        block_from q (length b) y start2 h.second (omega (arith, r.given.1, h.heights)) r.starts2 x (omega (arith, h.widths)) j j<,
+        small_block p a y x start h.first r.given.1 x< r.starts m.0,
+        small_block q b y x start2 h.second (omega (arith, h.heights, r.given.1)) (omega (arith, h.widths)) r.starts2 m.1,
       )
 
-  -- the sums of two blocks, wherever they start
-  pub sums_most : (at at2 step step2 org other : ℕ) → org ≡ square_from block_side a at step → other ≡ square_from block_side b at2 step2
-      → (org ≤ 64 * k) × (other ≤ 64 * k)
-  sums_most at at2 step step2 org other e d = (rw e (squares_most k a r.most at step), rw d (squares_most k b r.most2 at2 step2))
+  -- a row has this many at most
+  pub across_most : blocks_across p ≤ 1024
+  across_most = omega (arith, planes.first.width_most)
 
   -- one turn
-  abbrev pub GapTurn : ℕ → ℕ → ℕ → Type 0
-  GapTurn total part x = GapSum a start p.stride b start2 q.stride (total + part) (x + 1) × (total + part < 2 ^ 64)
-
-  pub gap_turn : (x total org other part : ℕ) → x < blocks_across p → GapSum a start p.stride b start2 q.stride total x
-      → org ≡ square_from block_side a (start + x * block_side) p.stride → other ≡ square_from block_side b (start2 + x * block_side) q.stride
-      → part ≡ apart (mean org) (mean other) → GapTurn total part x
-  gap_turn x total org other part x< h e d f =
-      let l = planes.first in
-      let room = total_fits 1 (blocks_across p) k (omega arith) (omega (arith, l.width_most)) r.small in
-      next_sum k (blocks_across p) (2 ^ 64) (gap_of a start p.stride b start2 q.stride)
-      (λ x _. means_most k _ _ (squares_most k a r.most _ _) (squares_most k b r.most2 _ _))
-      (omega arith) x total part x< h (rw (e, d) at f)
+  pub gap_turn : (x total org other part : ℕ) → GapSum a start p.stride b start2 q.stride total x
+      → org ≡ mean (square_from block_side a (start + x * block_side) p.stride) → other ≡ mean (square_from block_side b (start2 + x * block_side) q.stride)
+      → part ≡ apart org other → GapSum a start p.stride b start2 q.stride (total + part) (x + 1)
+  gap_turn x total org other part h e d f = omega (arith, h, rw (e, d) at f, sum_more x (gap_of a start p.stride b start2 q.stride))
 
   -- all of the row is the planes' own
   pub gaps_are : (x total : ℕ) → GapSum a start p.stride b start2 q.stride total x → x ≡ blocks_across p → total ≡ blocks_difference p a q b y
@@ -142,14 +127,6 @@ module _ (k : ℕ) (p : Plane) (a : List ℕ) (q : Plane) (b : List ℕ) (l : (i
   differences_most y n =
       sum_most k n (block_difference p a q b y)
       (λ x _. means_most k (block_sum p a y x) (block_sum q b y x) (block_most k a l p y x) (block_most k b m q y x))
-
-  -- a turn of the sum over all rows of blocks
-  pub rows_next : k < 2 ^ 16 → sizes_fault p (length a) q (length b) ≡ 0 → (y total part : ℕ) → y < blocks_down p
-      → total ≡ sum_below y (blocks_difference p a q b) → part ≡ blocks_difference p a q b y → NextSum (2 ^ 42) y total part (blocks_difference p a q b)
-  rows_next s e =
-      let f = (pair p (length a) q (length b) e).first in
-      next_sum (blocks_across p * k) (blocks_down p) (2 ^ 42) (blocks_difference p a q b) (λ y _. differences_most y (blocks_across p))
-      (total_fits (blocks_down p) (blocks_across p) k (omega arith) (omega arith) s)
 
   totals_most_lem : (n : ℕ) → sum_below n (blocks_difference p a q b) ≤ n * (blocks_across p * k)
   totals_most_lem n = sum_most (blocks_across p * k) n (blocks_difference p a q b) (λ y _. differences_most y (blocks_across p))

@@ -2,5 +2,5 @@ pub mod Refusals
 pub mod BlockSums
 pub mod FourRows
 pub mod RowLooks
+pub mod Words
 pub mod Unique
-pub mod DeepUnique

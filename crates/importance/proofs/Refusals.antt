@@ -2,17 +2,15 @@
 use mathlib.Core.Bool.{◌||◌}
 use mathlib.Core.List.{List}
 use mathlib.Core.Path.{◌≡◌, refl, sym}
-use Prim.Native.Nat.{ℕ, ◌≤◌, ◌<◌}
-use lib.ListN.{length, get_or}
+use Prim.Native.Nat.{ℕ, ◌<◌}
+use lib.ListN.{length}
 use Rattle.answer.specs.Refusal.{refusal}
 use Rattle.answer.proofs.Laws.{or_given, or_later, or_none, or_both}
 use Rattle.plane.specs.Blocks.{block_count, blocks_fault}
-use Rattle.plane.specs.Planes.{Word, byte, sizes_fault, shapes_fault, pair_fault, too_large}
+use Rattle.plane.specs.Planes.{Word, sizes_fault, shapes_fault, pair_fault, too_large}
 use Rattle.plane.specs.declared.Plane.{Plane}
 use Rattle.plane.proofs.BlockLaws.{block_passes, blocks_next, by_blocks}
-use Rattle.plane.proofs.SampleLaws.{by_shapes, suited, measured}
-use Rattle.plane.proofs.SampleLaws as samples
-use Rattle.sums.specs.Needs.{byte_most}
+use Rattle.plane.proofs.SampleLaws.{measured}
 use Rattle.importance.specs.Importance.{importance_fault}
 
 module _ (word : Word) (depth : ℕ) (p : Plane) (a : List ℕ) (q : Plane) (b : List ℕ) where
@@ -42,12 +40,3 @@ module _ (word : Word) (depth : ℕ) (p : Plane) (a : List ℕ) (q : Plane) (b :
   with_blocks e h =
       let t = or_none (shapes_fault word depth p (length a) q (length b)) (refusal 16 (too_large depth p a || too_large depth q b)) e in
       sym (or_later _ _ _ (blocks_next word depth p (length a) q (length b) 0 (sym t.0) (block_passes (block_count p) h)) (sym t.1))
-
--- with bytes shapes and blocks decide
-pub bytes_refused : (depth : ℕ) (p : Plane) (a : List ℕ) (q : Plane) (b : List ℕ)
-    → ((i : ℕ) → get_or a i 0 ≤ byte_most) → ((i : ℕ) → get_or b i 0 ≤ byte_most)
-    → (r : ℕ) → r ≡ blocks_fault byte depth p (length a) q (length b) → r ≡ importance_fault byte depth p a q b
-unfolding importance_fault
-bytes_refused depth p a q b l m r e =
-    samples.bytes_refused depth p a q b l m r (blocks_fault byte depth p (length a) q (length b)) e
-    (λ none. suited byte depth (by_shapes byte depth p (length a) q (length b) (by_blocks byte depth p (length a) q (length b) none).0).0)

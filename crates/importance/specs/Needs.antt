@@ -1,4 +1,4 @@
--- What only private contracts of `deep` cite: samples of which four fit a word of 16 bits together.
+-- What only contracts of sums cite: samples of which four fit a word of 16 bits together.
 use Rattle.std.specs.Prelude.{ℕ, ◌+◌, ◌*◌, ◌≤◌, ◌<◌, List, get_or}
 use Rattle.plane.specs.Blocks.{block_side}
 use Rattle.plane.specs.Planes.{sample_at}

@@ -1,61 +1,31 @@
-// Importance: `estimate_importance_block_difference` of analyze/importance.rs, before the division and after it.
+// Importance: `estimate_importance_block_difference` of analyze/importance.rs, before the division and after it. The samples are looked at for
+// refusal 16 one row of blocks at a time, just before it is summed: so the sum finds them in the cache, and knows that they are small.
 #![tactic(auto)]
 
-ghost use Rattle.std.specs.Prelude.{◌≡◌, ℕ, ◌+◌, ◌*◌, ◌≤◌, ◌<◌, length, get_or};
-ghost use Rattle.answer.specs.Answer.{whole_answer, real_answer};
-ghost use Rattle.plane.specs.Blocks.{block_side, blocks_down};
-ghost use Rattle.plane.specs.Needs.{square_from};
-ghost use Rattle.plane.specs.Planes.{byte, sizes_fault};
-ghost use Rattle.sums.specs.Needs.{byte_most};
-ghost use Rattle.sums.specs.Sums.{sum_below, apart};
-ghost use Rattle.importance.specs.Importance.{mean, blocks_difference, importance_total, importance_fault, total_of, importance_of};
+ghost use Rattle.std.specs.Prelude.{true, ◌||◌, ◌≡◌, ◌*◌, ◌^◌, ◌≤◌, ◌<◌, length};
+ghost use Rattle.answer.specs.Answer.{answered, answer_of};
+ghost use Rattle.answer.specs.Refusal.{refusal};
+ghost use Rattle.plane.specs.Blocks.{blocks_down};
+ghost use Rattle.plane.specs.Planes.{suits, sizes_fault, rows_large, too_large};
+ghost use Rattle.importance.specs.Needs.{SmallBlocks};
+ghost use Rattle.importance.specs.Importance.{blocks_difference, importance_total, total_of, importance_of};
 
-use answer::{Real, Whole};
+use answer::Refusal;
 use plane::{BLOCK_SIDE, Plane};
 
-pub mod deep;
+mod block;
+mod byte;
+mod word;
 
-// The sum of a part's first eight samples. The sums of a block are kept in 16 bits, so that one vector instruction adds
-// eight of them; in 32 bits it adds four, and every sample is widened twice.
-fn sum_row(s: &[u8]) -> u16
-    requires { block_side ≤ length s.now }
-    ensures { result ≡ sum_below block_side (λ (i : ℕ). get_or s.now i 0) }
-{
-    let mut sum: u16 = 0;
-    for i in 0..BLOCK_SIDE {
-        sum += s[i] as u16;
-    }
-    sum
-}
+pub use block::BlockMean;
 
-// The sum of the block that starts at a place.
-fn sum_8x8_block(s: &[u8], start: usize, stride: usize) -> u16
-    requires { (j : ℕ) → j < block_side → start + j * stride + block_side ≤ length s.now }
-    ensures { result ≡ square_from block_side s.now start stride }
-{
-    let mut sum: u16 = 0;
-    for j in 0..BLOCK_SIDE {
-        let i = start + j * stride;
-        sum += sum_row(&s[i..]);
-    }
-    sum
-}
-
-// How far two rounded means lie apart. Each is rounded by itself: the mean of the differences is another number.
-fn means_apart(org: u16, other: u16) -> u16
-    requires { (org ≤ 64 * byte_most) × (other ≤ 64 * byte_most) }
-    ensures { result ≡ apart (mean org) (mean other) }
-{
-    let m = (org + 32) / 64;
-    let n = (other + 32) / 64;
-    if m < n { n - m } else { m - n }
-}
-
-// The differences of row y of blocks.
-fn blocks_difference(p: Plane, a: &[u8], q: Plane, b: &[u8], y: usize) -> u64
-    requires b_value { sizes_fault p (length a.now) q (length b.now) ≡ 0 }
+// The differences of row y of blocks. Each mean is rounded by itself: the mean of the differences is another number.
+fn blocks_difference<S: BlockMean>(p: Plane, a: &[S], q: Plane, b: &[S], y: usize) -> u64
+    requires b_value { sizes_fault p (length (S.Sample.values a.now)) q (length (S.Sample.values b.now)) ≡ 0 }
     requires y_bound { y < blocks_down p }
-    ensures { result ≡ blocks_difference p a.now q b.now y }
+    requires small_blocks { SmallBlocks p (S.Sample.values a.now) y × SmallBlocks q (S.Sample.values b.now) y }
+    ensures is { result ≡ blocks_difference p (S.Sample.values a.now) q (S.Sample.values b.now) y }
+    ensures at_most { result ≤ 2 ^ 26 }
 {
     let step = p.stride;
     let step2 = q.stride;
@@ -63,52 +33,85 @@ fn blocks_difference(p: Plane, a: &[u8], q: Plane, b: &[u8], y: usize) -> u64
     let start2 = q.block_row(b.len(), y);
     let mut total: u64 = 0;
     for x in 0..p.width / BLOCK_SIDE {
-        let org = sum_8x8_block(a, start + x * BLOCK_SIDE, step);
-        let other = sum_8x8_block(b, start2 + x * BLOCK_SIDE, step2);
-        total += means_apart(org, other) as u64;
+        let org = S::block_mean(a, start + x * BLOCK_SIDE, step);
+        let other = S::block_mean(b, start2 + x * BLOCK_SIDE, step2);
+        total += org.abs_diff(other) as u64;
     }
     total
 }
 
-// The differences of all whole blocks of two planes that are not refused.
-fn all_differences(p: Plane, a: &[u8], q: Plane, b: &[u8]) -> u64
-    requires { sizes_fault p (length a.now) q (length b.now) ≡ 0 }
-    ensures { result ≡ importance_total p a.now q b.now }
+// Whether one of the rows from one up to another, of either plane, has a sample that reaches 2 to the depth.
+fn any_large<S: BlockMean>(
+    depth: u64,
+    p: Plane,
+    a: &[S],
+    q: Plane,
+    b: &[S],
+    from: usize,
+    to: usize,
+) -> bool
+    ensures { result ≡ rows_large depth p (S.Sample.values a.now) from to || rows_large depth q (S.Sample.values b.now) from to }
 {
+    plane::rows_large(depth, p, a, from, to) | plane::rows_large(depth, q, b, from, to)
+}
+
+// The differences of all whole blocks of two planes of one size, or 16 where a sample is too large. The samples of a row of
+// blocks are looked at just before they are summed; those below the last whole block come last.
+fn all_differences<S: BlockMean>(
+    depth: u64,
+    p: Plane,
+    a: &[S],
+    q: Plane,
+    b: &[S],
+) -> Result<u64, Refusal>
+    requires b_value { sizes_fault p (length (S.Sample.values a.now)) q (length (S.Sample.values b.now)) ≡ 0 }
+    requires depth_value { suits S.Depths.word depth ≡ true }
+    ensures { answer_of result ≡ answered (refusal 16 (too_large depth p (S.Sample.values a.now) || too_large depth q (S.Sample.values b.now))) (importance_total p (S.Sample.values a.now) q (S.Sample.values b.now)) }
+{
+    let height = p.height;
     let mut total: u64 = 0;
-    for y in 0..p.height / BLOCK_SIDE {
+    for y in 0..height / BLOCK_SIDE {
+        let from = y * BLOCK_SIDE;
+        if any_large(depth, p, a, q, b, from, from + BLOCK_SIDE) {
+            return Err(Refusal::TooLarge);
+        }
         total += blocks_difference(p, a, q, b, y);
     }
-    total
-}
-
-// The refusal of two planes over their lent bytes, or 0. No byte is too large for its depth, so none is looked at.
-fn importance_fault(depth: u64, p: Plane, a: &[u8], q: Plane, b: &[u8]) -> u32
-    ensures { result ≡ importance_fault byte depth p a.now q b.now }
-{
-    plane::blocks_fault(depth, p, a.len(), q, b.len())
-}
-
-// The importance total of two planes, before the division.
-pub fn importance_total(depth: u64, p: Plane, a: &[u8], q: Plane, b: &[u8]) -> Whole
-    ensures { whole_answer result ≡ total_of byte depth p a.now q b.now }
-{
-    let fault = importance_fault(depth, p, a, q, b);
-    if fault != 0 {
-        return Whole::Refused(fault);
+    let done = (height / BLOCK_SIDE) * BLOCK_SIDE;
+    if any_large(depth, p, a, q, b, done, height) {
+        return Err(Refusal::TooLarge);
     }
-    Whole::Number(all_differences(p, a, q, b))
+    Ok(total)
 }
 
-// The importance of two planes: the total over the number of blocks.
-pub fn importance(depth: u64, p: Plane, a: &[u8], q: Plane, b: &[u8]) -> Real
-    ensures { real_answer result ≡ importance_of byte depth p a.now q b.now }
+// The importance total of two planes, before the division. Shapes and blocks are asked for one after the other. `blocks_fault` does both, but
+// the compiler keeps it apart, and two planes as its arguments take 112 bytes of stack.
+pub fn importance_total<S: BlockMean>(
+    depth: u64,
+    p: Plane,
+    a: &[S],
+    q: Plane,
+    b: &[S],
+) -> Result<u64, Refusal>
+    ensures { answer_of result ≡ total_of S.Depths.word depth p (S.Sample.values a.now) q (S.Sample.values b.now) }
 {
-    let fault = importance_fault(depth, p, a, q, b);
-    if fault != 0 {
-        return Real::Refused(fault);
-    }
-    let total = all_differences(p, a, q, b);
+    plane::shapes_fault::<S>(depth, p, a.len(), q, b.len())?;
+    plane::block_fault((p.height / BLOCK_SIDE) * (p.width / BLOCK_SIDE))?;
+    all_differences(depth, p, a, q, b)
+}
+
+// The importance of two planes: the total over the number of blocks. It asks for the total as a caller does: so the compiler has one
+// place for the loops, and their stack is small.
+pub fn importance<S: BlockMean>(
+    depth: u64,
+    p: Plane,
+    a: &[S],
+    q: Plane,
+    b: &[S],
+) -> Result<f64, Refusal>
+    ensures { answer_of result ≡ importance_of S.Depths.word depth p (S.Sample.values a.now) q (S.Sample.values b.now) }
+{
+    let total = importance_total(depth, p, a, q, b)?;
     let count = (p.height / BLOCK_SIDE) * (p.width / BLOCK_SIDE);
-    Real::Number(sums::quotient(total, count as u64))
+    Ok(sums::quotient(total, count as u64))
 }

@@ -66,9 +66,9 @@ fn lent_deque(numbers: &[u64; NUMBERS], scores: &[f64; SCORES], count: usize) ->
     let none = ScenecutResult::new(0, 0.0, 0.0, 0.0, 0.0, 0.0);
     let entries = [none; Settings::ROOM];
     let mut out = ScoreDeque { entries, count };
-    for i in 0..count.min(Settings::ROOM) {
-        let at = i * DOUBLES;
-        out.entries[i] = front_score(numbers[PAIRS + i], &scores[at..]);
+    let lent = numbers[PAIRS..].iter().zip(scores.chunks_exact(DOUBLES));
+    for (i, (pair, doubles)) in lent.take(count).enumerate() {
+        out.entries[i] = front_score(*pair, doubles);
     }
     out
 }
@@ -144,7 +144,7 @@ fn call_numbers(s: State) -> [u64; CALL]
     ]
 }
 
-// The entries of a deque, each in its place.
+// The entries of a deque, each in its place. By index: of what `chunks_exact_mut` lends a proof knows no element afterwards.
 fn put_deque(scores: &mut [f64], d: ScoreDeque)
     requires { length scores.old ≡ scores_long }
     ensures { scores.new ≡ placed (content d) scores.old }
@@ -156,7 +156,7 @@ fn put_deque(scores: &mut [f64], d: ScoreDeque)
     }
 }
 
-// The entries' pair numbers, each in its place.
+// The entries' pair numbers, each in its place. By index: of what `iter_mut` lends a proof knows no element afterwards.
 fn put_pairs(numbers: &mut [u64], d: ScoreDeque)
     requires { length numbers.old ≡ numbers_long }
     ensures { numbers.new ≡ take pairs_place numbers.old ++ pairs_placed (content d) (drop pairs_place numbers.old) }

@@ -14,6 +14,7 @@ const ONES: u64 = 0x7ff;
 // The pattern that every NaN is written as.
 const NAN: u64 = 0x7ff8000000000000;
 
+// Whether bits are a NaN's. (Told from the bits: `f64::from_bits` may not be asked of a NaN's.)
 pub fn is_nan(bits: u64) -> bool
     ensures { result ≡ nan_bits binary64 bits }
 {

@@ -9,8 +9,8 @@ ghost use Rattle.octets.specs.Octets.{overwritten, lies, number_at, with_number}
 
 pub mod float;
 
-// Whether n bytes lie within a list of `len` from a place on. (One test for reading, where `s.get(at..)?.first_chunk()` takes two: the scan of
-// a log is half as fast with these.)
+// Whether n bytes lie within a list of `len` from a place on. (`s.get(at..)?.first_chunk()` reads with two tests in place of this one, and the
+// scan of a log then takes 33 instructions a record for 20.)
 fn lies_within(len: usize, at: usize, n: usize) -> bool
     ensures { result ≡ nat_le (at + n) len }
 {

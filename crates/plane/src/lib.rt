@@ -178,7 +178,9 @@ fn sizes_fault(p: Plane, n: usize, q: Plane, m: usize) -> Result<(), Refusal>
     Ok(())
 }
 
-// The refusal of two planes by their shapes: of the depth first, then of the planes.
+// The refusal of two planes by their shapes: of the depth first, then of the planes. It is made a part of its callers: two planes as its
+// arguments take 112 bytes of stack.
+#[inline]
 #[tactic(auto, using(answer::proofs::Laws::refusals), unfolding(crate::specs::Planes::shapes_fault))]
 pub fn shapes_fault<S: Depths>(
     depth: u64,

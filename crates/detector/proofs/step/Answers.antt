@@ -16,5 +16,5 @@ returns-in-Ok-clause-hands_back c = λ h.
     absurd (true≢false (sym h ∙ ap (λ (o : Outcome). is_refused o.answer) c.accepted.ensures ∙ (accepted_leaves _ _).decided))
 
 pub returns-in-Err-clause-result_value : goal.returns-in-Err-clause-result_value
-returns-in-Err-clause-result_value c = 
+returns-in-Err-clause-result_value c =
     let e = c.in-Err.ensures in rw e (sym (step_refused _ _ (λ z. number_some _ (e ∙ z))))

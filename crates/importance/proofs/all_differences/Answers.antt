@@ -1,37 +1,48 @@
--- `importance::all_differences` meets its contract. After y turns the total is that of the first y rows of blocks. Assumes nothing.
-use Prim.Native.Nat.{◌^◌}
-use native.Mathlib.Omega.{arith}
-use borrow.Author.Rules.{rules}
-use Rattle.sums.specs.Needs.{byte_most}
-use Rattle.sums.proofs.SumLaws.{NextSum, sum_none, sum_to}
-use Rattle.importance.specs.Importance.{blocks_difference, importance_total}
-use Rattle.importance.proofs.BlockSums.{rows_next}
+-- `importance::all_differences` meets its contract. After y turns the total is that of the first y rows of blocks, and none of their samples is too large. Assumes nothing.
+use Rattle.std.proofs.Common.{◌<◌, refl, sym, ◌∙◌, arith}
+use Rattle.answer.proofs.Laws.{or_no}
+use Rattle.plane.specs.Blocks.{blocks_down}
+use Rattle.plane.proofs.PlaneLaws.{pair}
+use Rattle.importance.proofs.FourRows.{small_blocks}
+use Rattle.importance.proofs.RowLooks.{look_none, look_refused, look_turn, look_fits, look_passed}
 use Rattle.importance.proofs.all_differences.Goals as goal
 
-pub loop-y-init : goal.loop-y-init
-loop-y-init c = (search rules, search rules, sum_none _)
-
+-- a look that found nothing leaves small samples
 pub blocks_difference-total-requires : goal.blocks_difference-total-requires
-blocks_difference-total-requires c = record { b_value = c.requires; y_bound = omega arith }
+blocks_difference-total-requires g c =
+    let s = c.args in
+    let values = g.S.Sample.values in
+    let h = pair _ _ _ _ c.requires.b_value in
+    let y< : c.loop-y.y < blocks_down s.p = omega arith in
+    let none = or_no _ _ (sym c.any_large.ensures ∙ c.if-any_large.false) in
+    record {
+      b_value = c.requires.b_value;
+      y_bound = y<;
+      small_blocks = (
+        small_blocks g.S.Depths.word s.depth s.p (values s.a.now) c.loop-y.y c.requires.depth_value h.first y< none.0,
+        small_blocks g.S.Depths.word s.depth s.q (values s.b.now) c.loop-y.y c.requires.depth_value h.second (omega (arith, h.heights)) none.1,
+      );
+    }
+
+pub loop-y-init : goal.loop-y-init
+loop-y-init g c = look_none _ _ _ _ _
+
+pub returns-then-any_large : goal.returns-then-any_large
+returns-then-any_large g c =
+    look_refused _ _ _ _ _ c.requires.b_value _ _ c.loop-y.invariant _ _ _ refl (omega arith) (omega arith) c.any_large.ensures c.if-any_large.true
 
 pub overflow_add-total : goal.overflow_add-total
-overflow_add-total c =
-    let next : let s = c.args in NextSum (2 ^ 42) c.loop-y.y c.loop-y.total c.blocks_difference-total.result (blocks_difference s.p s.a.now s.q s.b.now) = let s = c.args in
-    rows_next byte_most s.p s.a.now s.q s.b.now
-    (λ i. omega (arith, c.shared_slice_known-1.given i))
-    (λ i. omega (arith, c.shared_slice_known-2-1.given i))
-    (omega arith) c.requires c.loop-y.y c.loop-y.total c.blocks_difference-total.result (omega arith) c.loop-y.invariant.2 c.blocks_difference-total.ensures in
-    omega (arith, next.1)
+overflow_add-total g c = record { fits = look_fits _ _ _ _ _ c.requires.b_value _ _ c.loop-y.invariant _ (omega arith) c.blocks_difference-total.ensures.at_most }
 
 pub loop-y-preserved : goal.loop-y-preserved
-loop-y-preserved c =
-    let next : let s = c.args in NextSum (2 ^ 42) c.loop-y.y c.loop-y.total c.blocks_difference-total.result (blocks_difference s.p s.a.now s.q s.b.now) = let s = c.args in
-    rows_next byte_most s.p s.a.now s.q s.b.now
-    (λ i. omega (arith, c.shared_slice_known-1.given i))
-    (λ i. omega (arith, c.shared_slice_known-2-1.given i))
-    (omega arith) c.requires c.loop-y.y c.loop-y.total c.blocks_difference-total.result (omega arith) c.loop-y.invariant.2 c.blocks_difference-total.ensures in
-    (search rules, search rules, next.0)
+loop-y-preserved g c =
+    let part = c.blocks_difference-total.ensures in
+    look_turn _ _ _ _ _ c.requires.b_value _ _ c.loop-y.invariant _ (omega arith) c.any_large.ensures c.if-any_large.false part.is part.at_most
+
+pub returns-then-any_large-2 : goal.returns-then-any_large-2
+returns-then-any_large-2 g c =
+    look_refused _ _ _ _ _ c.requires.b_value _ _ c.loop-y.invariant _ _ _ (omega arith) (omega arith) (omega arith) c.any_large-2.ensures c.if-any_large-2.true
 
 pub returns : goal.returns
-unfolding importance_total
-returns c = sum_to _ _ _ _ c.loop-y.invariant.2 (omega arith)
+returns g c =
+    look_passed _ _ _ _ _ c.requires.b_value _ _ c.loop-y.invariant _ (omega arith) (omega arith) c.any_large-2.ensures c.if-any_large-2.false

@@ -1,10 +1,9 @@
 -- `importance::blocks_difference` meets its contract. After x turns the total is that of the first x blocks, and a block that is whole lies within the samples. Assumes nothing.
-use Prim.Native.Nat.{◌≤◌, ◌-◌}
+use Prim.Native.Nat.{◌*◌, ◌≤◌, ◌^◌}
 use Rattle.importance.proofs.BlockSums.{GapSum}
 use Rattle.importance.proofs.blocks_difference.Given as goal
 
 abbrev pub invariant-loop-x : goal.invariant-loop-x
-invariant-loop-x l = (l.x ≤ l.x-end) × GapSum l.a l.start l.step l.b l.start2 l.step2 l.total l.x
-
-abbrev pub decreases-loop-x : goal.decreases-loop-x
-decreases-loop-x l = l.x-end - l.x
+invariant-loop-x g l =
+    let values = g.S.Sample.values in
+    (l.x ≤ l.x-end) × (l.total ≤ l.x * 2 ^ 16) × GapSum (values l.a) l.start l.step (values l.b) l.start2 l.step2 l.total l.x
