@@ -36,7 +36,7 @@ fn fill_block<S: Sample>(work: &mut [S], start: usize, stride: usize, flat: S)
     let row = [flat; BLOCK_SIDE];
     for y in 0..BLOCK_SIDE {
         let i = start + y * stride;
-        sums::copy(&mut work[i..], &row);
+        sums::copy(&mut work[i..i + BLOCK_SIDE], &row);
     }
 }
 
@@ -69,8 +69,9 @@ fn load_block<S: Sample>(block: &mut [S; SAMPLES], s: &[S], start: usize, stride
 {
     let rows = &mut block[..];
     for j in 0..BLOCK_SIDE {
+        let at = j * BLOCK_SIDE;
         let i = start + j * stride;
-        sums::copy(&mut rows[j * BLOCK_SIDE..], &s[i..i + BLOCK_SIDE]);
+        sums::copy(&mut rows[at..at + BLOCK_SIDE], &s[i..i + BLOCK_SIDE]);
     }
 }
 

@@ -16,7 +16,7 @@ loop-y-init g c = wrote_none _ _ _ (rows_none _ _ _)
 pub loop-y-preserved : goal.loop-y-preserved
 loop-y-preserved g c =
     let s = c.args in
-    wrote_copied g.met.S.Sample.each c.loop-y.invariant _ block_side (replicate block_side s.flat) _ c.copy.ensures refl
+    wrote_copied g.met.S.Sample.each c.loop-y.invariant _ _ block_side (omega arith) (replicate block_side s.flat) _ c.copy.ensures refl
     (c.requires.rows c.loop-y.y c.loop-y-test.true) (flat_at g.met.S.Sample.each s.flat) (rows_next s.start s.stride c.loop-y.y block_side)
 
 pub returns : goal.returns

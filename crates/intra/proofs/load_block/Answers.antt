@@ -23,7 +23,7 @@ loop-j-preserved g c =
     let each = g.met.S.Sample.each in
     let i = s.start + c.loop-j.j * s.stride in
     let inside = c.requires.rows c.loop-j.j c.loop-j-test.true in
-    wrote_copied each c.loop-j.invariant _ block_side (take (i + 8 - i) (drop i s.s.now)) _ c.copy.ensures (simp (length-take, length-drop) (omega arith))
+    wrote_copied each c.loop-j.invariant _ _ block_side (omega arith) (take (i + 8 - i) (drop i s.s.now)) _ c.copy.ensures (simp (length-take, length-drop) (omega arith))
     (omega (arith, c.told-block))
     (λ k k<. ap (λ (l : List ℕ). get_or l k 0) (part_values each i (i + 8 - i) s.s.now) ∙ row_of_square (g.S.Sample.values s.s.now) s.start s.stride c.loop-j.j _ k (omega arith) k<)
     (fronts_next block_side c.loop-j.j)
