@@ -7,7 +7,7 @@ use lib.Dec.{eqb}
 use borrow.Author.Tests.{ne_eqb, eqb-true, eqb-false}
 use Rattle.answer.specs.Refusal.{number_of, refusal, ◌or_else◌}
 use Rattle.answer.specs.Answer.{Answer, gives, refused, answered, lent_after, answer_of, fault_in}
-use Rattle.std.specs.Prelude.{Result, Ok, Err}
+use Rattle.std.specs.Prelude.{Result, Ok, Err, IsOk}
 use Rattle.answer.specs.declared.Refusal.{Refusal}
 use Rattle.answer.specs.declared.Refusal.TheVariants.{BadPlane, PastSamples, SizesDiffer, NoRoom, BadDepth, BadSize, BadNumber, BadLength, Stop, BadList, BadState, NoMark, BadCut, NotRising, LogRoom, TooLarge, TooManyRows, RowsLeft, NoBlock}
 
@@ -104,11 +104,11 @@ answer_same fault a b e = by_case (eqb fault 0) (λ t. e (eqb-true fault 0 t))
     by_case false e = refl
 
 -- a refusal has a number of its own, and 0 is none's
-by_number : ℕ → Refusal
+pub by_number : ℕ → Refusal
 by_number n =
     cond (eqb n 1) BadPlane (cond (eqb n 2) PastSamples (cond (eqb n 3) SizesDiffer (cond (eqb n 4) NoRoom (cond (eqb n 5) BadDepth (cond (eqb n 6) BadSize (cond (eqb n 7) BadNumber (cond (eqb n 8) BadLength (cond (eqb n 9) Stop (cond (eqb n 10) BadList (cond (eqb n 11) BadState (cond (eqb n 12) NoMark (cond (eqb n 13) BadCut (cond (eqb n 14) NotRising (cond (eqb n 15) LogRoom (cond (eqb n 16) TooLarge (cond (eqb n 17) TooManyRows (cond (eqb n 18) RowsLeft (NoBlock))))))))))))))))))
 
-by_number_of : (e : Refusal) → by_number (number_of e) ≡ e
+pub by_number_of : (e : Refusal) → by_number (number_of e) ≡ e
 unfolding by_number
 by_number_of BadPlane = refl
 by_number_of PastSamples = refl
@@ -181,21 +181,28 @@ answer_handed e fault a p = answer_refused _ fault a p (number_some e)
 
 pub ruleset answers = (answer_handed, answer_given)
 
+-- a result without a refusal holds a value
+pub fault_ok : {A : Type 0} (r : Result A Refusal) → fault_in r ≡ 0 → IsOk r
+fault_ok (Ok a) p = refl
+fault_ok (Err e) p = absurd (number_some e p)
+
+abbrev is_given : {A : Type 0} → Answer A → Bool
+is_given (gives a) = true
+is_given (refused r) = false
+
 -- what answers one value tells of another: a refusal is handed on, and a value is given where nothing is refused
 pub handed_on : {A B : Type 0} (fault : ℕ) (v : A) (w : B) (n : ℕ) → refused n ≡ answered fault v → refused n ≡ answered fault w
 handed_on {A} fault v w n =
     answer_cases (λ (x : Answer A). refused n ≡ x → refused n ≡ answered fault w) fault v
     (λ z e. absurd (true≢false (sym (ap is_given e))))
     (λ h e. let same : n ≡ fault = cc in answer_refused n fault w same (λ z. h (sym same ∙ z)))
-  where
-    is_given : Answer A → Bool
-    is_given (gives a) = true
-    is_given (refused r) = false
 
 pub given_by : {A : Type 0} (fault : ℕ) (v a : A) → gives a ≡ answered fault v → (fault ≡ 0) × (a ≡ v)
 given_by {A} fault v a =
     answer_cases (λ (x : Answer A). gives a ≡ x → (fault ≡ 0) × (a ≡ v)) fault v (λ z e. (z, cc)) (λ h e. absurd (true≢false (ap is_given e)))
-  where
-    is_given : Answer A → Bool
-    is_given (gives a) = true
-    is_given (refused r) = false
+
+-- a lent place, where something is refused
+pub lent_stays : {A : Type 0} (fault : ℕ) (new old : A) → (fault ≡ 0 → ⊥) → old ≡ lent_after fault new old
+lent_stays fault new old h = lent_kept fault fault new old refl h
+
+pub ruleset lents = (lent_stays, lent_written, number_some)

@@ -41,7 +41,7 @@ impl Refusal {
 
 impl fmt::Display for Refusal {
     fn fmt<W: fmt::Write>(&self, f: &mut fmt::Formatter<W>) -> fmt::Result {
-        write!(f, "refusal {}", *self as u32)
+        write!(f, "refused {}", *self as u32)
     }
 }
 

@@ -9,19 +9,20 @@ ghost use Rattle.intra.specs.Costs.{intra_of, work_of, costs_of};
 ghost use Rattle.intra.specs.Threshold.{threshold_of};
 ghost use Rattle.lent.specs.Lent.{fresh_fault, fresh_numbers, lent_step, numbers_after, scores_after};
 ghost use Rattle.lent.specs.Places.{settings_by};
-ghost use Rattle.plane.specs.Planes.{byte};
 ghost use Rattle.state.specs.State.{call};
 ghost use Rattle.sad.specs.Difference.{difference_of, delta_of};
 ghost use Rattle.satd.specs.Satd.{satd_of};
 ghost use Rattle.scale.specs.Scale.{factor_answer};
 ghost use Rattle.brinepulley.specs.Coded.{coded, done, status, held_after, decided, plane_by};
 
-use plane::Plane;
+use importance::BlockSum;
+use plane::Depths;
+use sad::RowSad;
 use settings::Settings;
+use sums::Sample;
 
 pub mod card;
 mod code;
-pub mod deep;
 pub mod frames;
 pub mod sensor;
 
@@ -33,97 +34,73 @@ pub fn brine_scale_factor(width: usize, height: usize, mode: u32) -> i64
 }
 
 // The sum of absolute differences of two planes.
-pub fn brine_plane_difference(
+pub fn brine_plane_difference<S: RowSad>(
     depth: u32,
-    first: &[u8],
+    first: &[S],
     width: usize,
     height: usize,
     stride: usize,
     origin: usize,
-    second: &[u8],
+    second: &[S],
     width2: usize,
     height2: usize,
     stride2: usize,
     origin2: usize,
 ) -> i64
-    ensures { result ≡ coded (difference_of byte depth (plane_by width height stride origin) first.now (plane_by width2 height2 stride2 origin2) second.now) }
+    ensures { result ≡ coded (difference_of S.Depths.word depth (plane_by width height stride origin) (S.Sample.values first.now) (plane_by width2 height2 stride2 origin2) (S.Sample.values second.now)) }
 {
-    let p = Plane {
-        width,
-        height,
-        stride,
-        origin,
-    };
-    let q = Plane {
-        width: width2,
-        height: height2,
-        stride: stride2,
-        origin: origin2,
-    };
+    let p = code::plane_by(width, height, stride, origin);
+    let q = code::plane_by(width2, height2, stride2, origin2);
+    // No sample is above the largest, so the sum fits the answer.
+    S::bounded(first);
+    S::bounded(second);
     code::whole(sad::plane_difference(depth as u64, p, first, q, second))
 }
 
 // The importance total of two planes, before the division.
-pub fn brine_importance_total(
+pub fn brine_importance_total<S: BlockSum>(
     depth: u32,
-    first: &[u8],
+    first: &[S],
     width: usize,
     height: usize,
     stride: usize,
     origin: usize,
-    second: &[u8],
+    second: &[S],
     width2: usize,
     height2: usize,
     stride2: usize,
     origin2: usize,
 ) -> i64
-    ensures { result ≡ coded (total_of byte depth (plane_by width height stride origin) first.now (plane_by width2 height2 stride2 origin2) second.now) }
+    ensures { result ≡ coded (total_of S.Depths.word depth (plane_by width height stride origin) (S.Sample.values first.now) (plane_by width2 height2 stride2 origin2) (S.Sample.values second.now)) }
 {
-    let p = Plane {
-        width,
-        height,
-        stride,
-        origin,
-    };
-    let q = Plane {
-        width: width2,
-        height: height2,
-        stride: stride2,
-        origin: origin2,
-    };
+    let p = code::plane_by(width, height, stride, origin);
+    let q = code::plane_by(width2, height2, stride2, origin2);
+    // No sample is above the largest, so the sum fits the answer.
+    S::bounded(first);
+    S::bounded(second);
     code::whole(importance::importance_total(depth as u64, p, first, q, second))
 }
 
 // The plane difference over width × height: 0, and the quotient in `delta`.
-pub fn brine_delta(
+pub fn brine_delta<S: RowSad>(
     depth: u32,
-    first: &[u8],
+    first: &[S],
     width: usize,
     height: usize,
     stride: usize,
     origin: usize,
-    second: &[u8],
+    second: &[S],
     width2: usize,
     height2: usize,
     stride2: usize,
     origin2: usize,
     delta: &mut f64,
 ) -> i64
-    ensures value { result ≡ coded (status (delta_of byte depth (plane_by width height stride origin) first.now (plane_by width2 height2 stride2 origin2) second.now)) }
-    ensures delta_after { delta.new ≡ held_after (delta_of byte depth (plane_by width height stride origin) first.now (plane_by width2 height2 stride2 origin2) second.now) delta.old }
+    ensures value { result ≡ coded (status (delta_of S.Depths.word depth (plane_by width height stride origin) (S.Sample.values first.now) (plane_by width2 height2 stride2 origin2) (S.Sample.values second.now))) }
+    ensures delta_after { delta.new ≡ held_after (delta_of S.Depths.word depth (plane_by width height stride origin) (S.Sample.values first.now) (plane_by width2 height2 stride2 origin2) (S.Sample.values second.now)) delta.old }
 {
-    let p = Plane {
-        width,
-        height,
-        stride,
-        origin,
-    };
-    let q = Plane {
-        width: width2,
-        height: height2,
-        stride: stride2,
-        origin: origin2,
-    };
+    let p = code::plane_by(width, height, stride, origin);
+    let q = code::plane_by(width2, height2, stride2, origin2);
     code::put(
         sad::delta_in_planes(depth as u64, p, first, q, second),
         delta,
@@ -131,35 +108,25 @@ pub fn brine_delta(
 }
 
 // The importance of two planes: 0, and the quotient in `importance`.
-pub fn brine_importance(
+pub fn brine_importance<S: BlockSum>(
     depth: u32,
-    first: &[u8],
+    first: &[S],
     width: usize,
     height: usize,
     stride: usize,
     origin: usize,
-    second: &[u8],
+    second: &[S],
     width2: usize,
     height2: usize,
     stride2: usize,
     origin2: usize,
     importance: &mut f64,
 ) -> i64
-    ensures value { result ≡ coded (status (importance_of byte depth (plane_by width height stride origin) first.now (plane_by width2 height2 stride2 origin2) second.now)) }
-    ensures importance_after { importance.new ≡ held_after (importance_of byte depth (plane_by width height stride origin) first.now (plane_by width2 height2 stride2 origin2) second.now) importance.old }
+    ensures value { result ≡ coded (status (importance_of S.Depths.word depth (plane_by width height stride origin) (S.Sample.values first.now) (plane_by width2 height2 stride2 origin2) (S.Sample.values second.now))) }
+    ensures importance_after { importance.new ≡ held_after (importance_of S.Depths.word depth (plane_by width height stride origin) (S.Sample.values first.now) (plane_by width2 height2 stride2 origin2) (S.Sample.values second.now)) importance.old }
 {
-    let p = Plane {
-        width,
-        height,
-        stride,
-        origin,
-    };
-    let q = Plane {
-        width: width2,
-        height: height2,
-        stride: stride2,
-        origin: origin2,
-    };
+    let p = code::plane_by(width, height, stride, origin);
+    let q = code::plane_by(width2, height2, stride2, origin2);
     code::put(
         importance::importance(depth as u64, p, first, q, second),
         importance,
@@ -167,36 +134,26 @@ pub fn brine_importance(
 }
 
 // The intra costs of a plane: the number of its whole blocks. The work plane and the cost list are written.
-pub fn brine_intra_costs(
+pub fn brine_intra_costs<S: Depths>(
     depth: u32,
-    samples: &[u8],
+    samples: &[S],
     width: usize,
     height: usize,
     stride: usize,
     origin: usize,
-    work: &mut [u8],
+    work: &mut [S],
     width2: usize,
     height2: usize,
     stride2: usize,
     origin2: usize,
     costs: &mut [u32],
 ) -> i64
-    ensures value { result ≡ coded (intra_of byte depth (plane_by width height stride origin) samples.now (plane_by width2 height2 stride2 origin2) work.old costs.old) }
-    ensures work_after { work.new ≡ work_of byte depth (plane_by width height stride origin) samples.now (plane_by width2 height2 stride2 origin2) work.old costs.old }
-    ensures costs_after { costs.new ≡ costs_of byte depth (plane_by width height stride origin) samples.now (plane_by width2 height2 stride2 origin2) work.old costs.old }
+    ensures value { result ≡ coded (intra_of S.word depth (plane_by width height stride origin) (S.Sample.values samples.now) (plane_by width2 height2 stride2 origin2) (S.Sample.values work.old) costs.old) }
+    ensures work_after { S.Sample.values work.new ≡ work_of S.word depth (plane_by width height stride origin) (S.Sample.values samples.now) (plane_by width2 height2 stride2 origin2) (S.Sample.values work.old) costs.old }
+    ensures costs_after { costs.new ≡ costs_of S.word depth (plane_by width height stride origin) (S.Sample.values samples.now) (plane_by width2 height2 stride2 origin2) (S.Sample.values work.old) costs.old }
 {
-    let p = Plane {
-        width,
-        height,
-        stride,
-        origin,
-    };
-    let w = Plane {
-        width: width2,
-        height: height2,
-        stride: stride2,
-        origin: origin2,
-    };
+    let p = code::plane_by(width, height, stride, origin);
+    let w = code::plane_by(width2, height2, stride2, origin2);
     code::whole(intra::estimate_intra_costs(depth as u64, p, samples, w, work, costs))
 }
 
@@ -213,7 +170,7 @@ pub fn brine_hadamard4x4(list: &mut [i32]) -> i64
     ensures value { result ≡ coded (done (transform_fault 4 list.old)) }
     ensures list_after { list.new ≡ after_transform 4 list.old }
 {
-    code::negated(hadamard::hadamard4x4(list))
+    code::done(hadamard::hadamard4x4(list))
 }
 
 // The transform of eight rows of eight entries, in their place: 0.
@@ -221,12 +178,12 @@ pub fn brine_hadamard8x8(list: &mut [i32]) -> i64
     ensures value { result ≡ coded (done (transform_fault 8 list.old)) }
     ensures list_after { list.new ≡ after_transform 8 list.old }
 {
-    code::negated(hadamard::hadamard8x8(list))
+    code::done(hadamard::hadamard8x8(list))
 }
 
 // The SATD of two blocks of 64 samples.
-pub fn brine_satd8x8(first: &[u8], second: &[u8]) -> i64
-    ensures { result ≡ coded (satd_of first.now second.now) }
+pub fn brine_satd8x8<S: Sample>(first: &[S], second: &[S]) -> i64
+    ensures { result ≡ coded (satd_of (S.values first.now) (S.values second.now)) }
 {
     code::whole(satd::satd8x8(first, second))
 }
@@ -257,7 +214,7 @@ pub fn brine_detector_fresh(
         min_key_frame_interval: min,
         max_key_frame_interval: max,
     };
-    code::negated(lent::fresh(g, numbers, scores))
+    code::done(lent::fresh(g, numbers, scores))
 }
 
 // The step of a detector in its lent places: what was decided, by its number. The places are as the decision leaves them.

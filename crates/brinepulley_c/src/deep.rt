@@ -28,7 +28,7 @@ pub extern "C" fn brine_reduce16(
     ensures value { result ≡ coded (done (reduce_fault deep depth factor (plane_by width height stride origin) samples.now (plane_by width2 height2 stride2 origin2) reduced.old)) }
     ensures reduced_after { reduced.new ≡ reduced_of deep depth factor (plane_by width height stride origin) samples.now (plane_by width2 height2 stride2 origin2) reduced.old }
 {
-    brinepulley::deep::brine_reduce16(
+    brinepulley::frames::brine_reduce(
         depth, factor, samples, width, height, stride, origin, reduced, width2, height2, stride2,
         origin2,
     )
@@ -51,7 +51,7 @@ pub extern "C" fn brine_plane_difference16(
 ) -> i64
     ensures { result ≡ coded (difference_of deep depth (plane_by width height stride origin) first.now (plane_by width2 height2 stride2 origin2) second.now) }
 {
-    brinepulley::deep::brine_plane_difference16(
+    brinepulley::brine_plane_difference(
         depth, first, width, height, stride, origin, second, width2, height2, stride2, origin2,
     )
 }
@@ -73,7 +73,7 @@ pub extern "C" fn brine_importance_total16(
 ) -> i64
     ensures { result ≡ coded (total_of deep depth (plane_by width height stride origin) first.now (plane_by width2 height2 stride2 origin2) second.now) }
 {
-    brinepulley::deep::brine_importance_total16(
+    brinepulley::brine_importance_total(
         depth, first, width, height, stride, origin, second, width2, height2, stride2, origin2,
     )
 }
@@ -97,7 +97,7 @@ pub extern "C" fn brine_delta16(
     ensures value { result ≡ coded (status (delta_of deep depth (plane_by width height stride origin) first.now (plane_by width2 height2 stride2 origin2) second.now)) }
     ensures delta_after { delta.new ≡ held_after (delta_of deep depth (plane_by width height stride origin) first.now (plane_by width2 height2 stride2 origin2) second.now) delta.old }
 {
-    brinepulley::deep::brine_delta16(
+    brinepulley::brine_delta(
         depth, first, width, height, stride, origin, second, width2, height2, stride2, origin2,
         delta,
     )
@@ -122,7 +122,7 @@ pub extern "C" fn brine_importance16(
     ensures value { result ≡ coded (status (importance_of deep depth (plane_by width height stride origin) first.now (plane_by width2 height2 stride2 origin2) second.now)) }
     ensures importance_after { importance.new ≡ held_after (importance_of deep depth (plane_by width height stride origin) first.now (plane_by width2 height2 stride2 origin2) second.now) importance.old }
 {
-    brinepulley::deep::brine_importance16(
+    brinepulley::brine_importance(
         depth, first, width, height, stride, origin, second, width2, height2, stride2, origin2,
         importance,
     )
@@ -148,7 +148,7 @@ pub extern "C" fn brine_intra_costs16(
     ensures work_after { work.new ≡ work_of deep depth (plane_by width height stride origin) samples.now (plane_by width2 height2 stride2 origin2) work.old costs.old }
     ensures costs_after { costs.new ≡ costs_of deep depth (plane_by width height stride origin) samples.now (plane_by width2 height2 stride2 origin2) work.old costs.old }
 {
-    brinepulley::deep::brine_intra_costs16(
+    brinepulley::brine_intra_costs(
         depth, samples, width, height, stride, origin, work, width2, height2, stride2, origin2,
         costs,
     )
@@ -159,5 +159,5 @@ pub extern "C" fn brine_intra_costs16(
 pub extern "C" fn brine_satd8x8_16(first: &[u16], second: &[u16]) -> i64
     ensures { result ≡ coded (satd_of first.now second.now) }
 {
-    brinepulley::deep::brine_satd8x8_16(first, second)
+    brinepulley::brine_satd8x8(first, second)
 }

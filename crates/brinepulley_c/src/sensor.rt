@@ -65,7 +65,7 @@ pub extern "C" fn brine_strips_add16(
     ensures value { result ≡ coded (add_of deep (kept carry.old room.old costs.old) (strip (plane_by width height stride origin) first.now (plane_by width2 height2 stride2 origin2) second.now)) }
     ensures costs_after { kept carry.new room.new costs.new ≡ add_after deep (kept carry.old room.old costs.old) (strip (plane_by width height stride origin) first.now (plane_by width2 height2 stride2 origin2) second.now) }
 {
-    brinepulley::sensor::brine_strips_add16(
+    brinepulley::sensor::brine_strips_add(
         carry, first, width, height, stride, origin, second, width2, height2, stride2, origin2,
         room, costs,
     )

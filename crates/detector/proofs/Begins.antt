@@ -11,7 +11,7 @@ use lib.Dec.{eqb, ltb}
 use lib.ListN.{length, get_or}
 use lib.Ieee.{nan}
 use Rattle.settings.specs.declared.Settings.{Settings}
-use Rattle.settings.specs.Settings.{normal_lookahead, lookahead_offset, is_none, is_fast, fast_threshold}
+use Rattle.settings.specs.Settings.{room, normal_lookahead, lookahead_offset, is_none, is_fast, fast_threshold}
 use Rattle.settings.proofs.Laws.{lookahead_small}
 use Rattle.score.specs.declared.ScenecutResult.{ScenecutResult}
 use Rattle.score.specs.Costs.{forbidden}
@@ -20,12 +20,16 @@ use Rattle.score.proofs.Counts.{none_at_lem}
 use Rattle.score.proofs.Scored.{Sound}
 use Rattle.score.proofs.PairLaws.{no_numbers, number_at_lem}
 use Rattle.score.proofs.Order.{InOrder, order_more}
-use Rattle.state.specs.State.{View, Call}
+use Rattle.state.specs.State.{View, Call, view}
 use Rattle.state.proofs.Tests.{and_right, and_both, positive}
-use Rattle.state.proofs.Fine.{Fine}
+use Rattle.state.proofs.Fine.{Fine, fine}
+use Rattle.state.specs.Refusals.{reads_all, step_fault}
+use Rattle.state.specs.declared.State.{State}
+use Rattle.score.specs.Deque.{content}
+use Rattle.score.proofs.Room.{long_min}
 use Rattle.detector.specs.Rules.{Turn, items_of, rule4}
 use Rattle.detector.specs.Step.{item_of}
-use Rattle.detector.specs.Needs.{Ready}
+use Rattle.detector.specs.Needs.{Readable, Ready}
 use Rattle.detector.specs.Numbers.{pairs_from}
 use Rattle.detector.proofs.Items.{items_long, items_sound, items_numbers, pairs_front, pairs_long, pairs_order}
 
@@ -140,3 +144,19 @@ module _ (s : View) (c : Call) (f : Fine s c) (later : lookahead_offset s.settin
             next = λ h. front some;
             twice = λ h. absurd (true≢false (sym h));
           })
+
+-- where no refusal is given, a state's count is that of its entries
+pub counted : (s : State) (c : Call) → length s.deque.entries ≡ room → step_fault (view s) c ≡ 0 → s.deque.count ≡ length (content s.deque)
+counted s c r e = omega (arith, long_min s.deque r, (fine (view s) c e).state.few)
+
+-- .. and the lists that are read are long enough
+pub readable : (s : View) (c : Call) → step_fault s c ≡ 0 → is_none s.settings ≡ false → Readable s.settings c
+readable s c e mode =
+    let f = fine s c e in
+    let all : is_fast s.settings ≡ false → reads_all s.settings ≡ true = λ h. rw (mode, h) in
+    record {
+      short = f.short;
+      small = f.small;
+      costs = omega (arith, (f.inter (ap not mode)).long);
+      rest = λ h. (omega (arith, (f.importance (all h)).long), omega (arith, (f.threshold (all h)).long));
+    }

@@ -7,12 +7,16 @@ use Prim.Native.Nat.{ℕ, ◌-◌, ◌<◌}
 use native.Mathlib.Omega.{arith}
 use borrow.Author.Tests.{eq-eqb, ne_eqb, eqb-true, eqb-false, leb-true, leb-false, lt-leb}
 use lib.Dec.{eqb, leb}
-use lib.ListN.{length}
+use lib.ListN.{length, get_or}
+use mathlib.Core.List.{List}
+use Rattle.std.specs.Prelude.{Some}
+use Rattle.score.specs.declared.ScenecutResult.{ScenecutResult}
+use Rattle.score.specs.Deque.{no_score}
 use Rattle.answer.specs.Answer.{Answer, gives, refused}
 use Rattle.settings.specs.Settings.{lookahead_offset, is_none}
 use Rattle.state.specs.State.{View, Call}
 use Rattle.state.specs.Refusals.{step_fault}
-use Rattle.detector.specs.Rules.{rule2, rule3, first_of, release_of}
+use Rattle.detector.specs.Rules.{Turn, rule2, rule3, rule6, rule7, first_of, release_of, next_of}
 use Rattle.detector.specs.Step.{Verdict, Outcome, is_refused, progress_of, bare_of, scored_of, accepted_of, step_of}
 
 module _ (s : View) (c : Call) where
@@ -29,6 +33,15 @@ module _ (s : View) (c : Call) where
   pub goes_on : rule2 s.settings c.set_length ≡ false → is_none s.settings ≡ false → accepted_of s c ≡ scored_of s c (progress_of s c)
   unfolding accepted_of
   goes_on k m = rw (k, m)
+
+  -- an outcome with a score, by its parts
+  pub scored_is : (t : Turn) (cut : Bool) (score : ScenecutResult) (kept : List ScenecutResult) (state : View)
+      → cut ≡ rule6 s.settings (c.number - c.keyframe) t
+      → score ≡ get_or t.entries t.offset no_score
+      → kept ≡ rule7 s.settings t.entries
+      → state ≡ next_of s c.set_length c.number kept t.offset
+      → ◌≡◌ {A = Outcome} (record { answer = gives (record { cut = cut; score = Some score }); state = state }) (scored_of s c t)
+  scored_is t cut score kept state p q r e = rw (e, r, q, p)
 
   pub step_refused : (step_fault s c ≡ 0 → ⊥) → step_of s c ≡ record { answer = refused (step_fault s c); state = s }
   unfolding step_of

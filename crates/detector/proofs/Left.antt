@@ -2,7 +2,7 @@
 -- room for. Assumes nothing.
 use mathlib.Core.Path.{◌≡◌, refl}
 use mathlib.Core.Bool.{false}
-use mathlib.Core.Option.{Option, none, some}
+use Rattle.std.specs.Prelude.{Option, Some, None}
 use Prim.Native.Nat.{ℕ, ◌≤◌, ◌<◌}
 use native.Mathlib.Omega.{arith}
 use lib.ListN.{length}
@@ -21,10 +21,10 @@ module _ (s : View) (c : Call) where
   pub settings_kept : (step_of s c).state.settings ≡ s.settings
   settings_kept = step_cases s c (λ o. o.state.settings ≡ s.settings) (λ f. refl) (λ q cut i. refl) (λ q l m. refl)
 
-  pub entries_kept : score_in (step_of s c).answer ≡ none → (step_of s c).state.entries ≡ s.entries
-  entries_kept = step_cases s c (λ o. score_in o.answer ≡ none → o.state.entries ≡ s.entries) (λ f h. refl) (λ q cut i h. refl) (λ q l m h. absurd (clash _ h))
+  pub entries_kept : score_in (step_of s c).answer ≡ None → (step_of s c).state.entries ≡ s.entries
+  entries_kept = step_cases s c (λ o. score_in o.answer ≡ None → o.state.entries ≡ s.entries) (λ f h. refl) (λ q cut i h. refl) (λ q l m h. absurd (clash _ h))
     where
-      clash : (e : ScenecutResult) → ◌≡◌ {A = Option ScenecutResult} (some e) none → ⊥
+      clash : (e : ScenecutResult) → ◌≡◌ {A = Option ScenecutResult} (Some e) None → ⊥
       clash e k = let z : ◌≡◌ {A = ℕ} 0 1 = cc in omega arith
 
   pub entries_few : (v : Verdict) → (step_of s c).answer ≡ gives v → length (step_of s c).state.entries ≤ room

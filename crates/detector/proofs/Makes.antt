@@ -3,14 +3,15 @@
 use mathlib.Core.Path.{◌≡◌, refl, sym, ◌∙◌, ap}
 use mathlib.Core.Bool.{Bool, true, false, true≢false, cond}
 use mathlib.Core.List.{List, [], ◌∷◌, ◌++◌}
-use mathlib.Core.Option.{Option, none, some}
+use Rattle.std.specs.Prelude.{Result}
+use Rattle.answer.specs.declared.Refusal.{Refusal}
 use Prim.Native.Nat.{◌-◌}
 use native.Mathlib.Omega.{arith}
 use borrow.Author.Tests.{eqb-true, eqb-false}
 use lib.Dec.{eqb}
 use lib.ListN.{length, take, replicate}
 use lib.Seq.{take_all, take-append-le}
-use Rattle.answer.specs.Answer.{Answer, gives, refused}
+use Rattle.answer.specs.Answer.{refused}
 use Rattle.settings.specs.declared.Settings.{Settings}
 use Rattle.settings.specs.Settings.{room, settings_fault}
 use Rattle.score.specs.declared.ScenecutResult.{ScenecutResult}
@@ -18,11 +19,12 @@ use Rattle.score.specs.Deque.{no_score}
 use Rattle.state.specs.State.{View, Call, view}
 use Rattle.state.specs.Refusals.{step_fault}
 use Rattle.state.specs.declared.State.{State}
-use Rattle.detector.specs.declared.StepAnswer.{StepAnswer}
+use Rattle.state.proofs.Refused.{fault_is}
+use Rattle.detector.specs.declared.Decision.{Decision}
 use Rattle.detector.specs.Fresh.{fresh_view}
-use Rattle.detector.specs.Step.{Verdict, Outcome, is_refused, step_answer, step_of}
+use Rattle.detector.specs.Step.{Outcome, is_refused, step_answer, step_of}
 use Rattle.detector.specs.Histories.{Detector, Made, Follows, accepted_in, History, by_value}
-use Rattle.detector.proofs.Cases.{leaves, step_refused}
+use Rattle.detector.proofs.Cases.{leaves, step_cases, step_refused}
 use Rattle.detector.proofs.Unique.{answer_by}
 use Rattle.detector.proofs.Histories.{Shows}
 
@@ -112,17 +114,13 @@ fresh_begins g e =
     ap (λ (v : View). record { fault = 0; state = v }) (state_shows (fresh_view g) refl)
     ∙ ap (λ (f : _). record { fault = f; state = fresh_view g }) (sym e)
 
-pub answer_back : (a : Answer Verdict) → step_answer (answer_by a) ≡ a
-answer_back (refused f) = refl
-answer_back (gives v) = by v.cut v.score
-  where
-    by : (cut : Bool) (o : Option ScenecutResult)
-        → step_answer (answer_by (gives (record { cut = cut; score = o }))) ≡ gives (record { cut = cut; score = o })
-    by cut none = refl
-    by cut (some e) = refl
+-- what a step answers is the answer of a result: a number that is given is a refusal's
+pub answer_back : (s : View) (c : Call) → step_answer (answer_by (step_of s c).answer) ≡ (step_of s c).answer
+answer_back s c =
+    step_cases s c (λ o. step_answer (answer_by o.answer) ≡ o.answer) (λ h. ap refused (fault_is s c h)) (λ e cut i. refl) (λ e l m. refl)
 
 module _ (s : State) (c : Call) where
-  abbrev replied : StepAnswer
+  abbrev replied : Result Decision Refusal
   replied = answer_by (step_of (view s) c).answer
 
   abbrev left : Bool → State
@@ -132,7 +130,7 @@ module _ (s : State) (c : Call) where
   value_allowed = by (eqb (step_fault (view s) c) 0) refl
     where
       back : step_answer replied ≡ (step_of (view s) c).answer
-      back = answer_back (step_of (view s) c).answer
+      back = answer_back (view s) c
 
       by : (x : Bool) → eqb (step_fault (view s) c) 0 ≡ x → by_value.Allows s c replied (left x)
       by true e =

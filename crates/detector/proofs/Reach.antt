@@ -4,7 +4,7 @@
 use mathlib.Core.Path.{◌≡◌, refl, sym, ◌∙◌}
 use mathlib.Core.Bool.{Bool, true, false, ◌&&◌, cond, true≢false}
 use mathlib.Core.List.{List, [], ◌∷◌}
-use mathlib.Core.Option.{Option, none, some}
+use Rattle.std.specs.Prelude.{Option, Some, None}
 use Prim.Native.Nat.{ℕ, ◌+◌, ◌-◌, ◌≤◌, ◌<◌}
 use native.Mathlib.Omega.{arith}
 use borrow.Author.Tests.{ltb-true, ltb-false}
@@ -167,7 +167,7 @@ module _ (s : View) (c : Call) (e : state_fault s ≡ 0) where
 
 abbrev pub score_in : Answer Verdict → Option ScenecutResult
 score_in (gives v) = v.score
-score_in (refused f) = none
+score_in (refused f) = None
 
 -- rule 7 does not drop entry o
 module _ (g : Settings) (n : ℕ) (t : Turn) (w : Good g n t) where
@@ -180,17 +180,17 @@ module _ (g : Settings) (n : ℕ) (t : Turn) (w : Good g n t) where
 
 -- the score that a step answers is the entry at the next state's offset
 module _ (s : View) (c : Call) (e : ScenecutResult) where
-  none_given : {A : Type 0} → ◌≡◌ {A = Option ScenecutResult} none (some e) → A
+  none_given : {A : Type 0} → ◌≡◌ {A = Option ScenecutResult} None (Some e) → A
   none_given h = absurd (let z : ◌≡◌ {A = ℕ} 0 1 = cc in omega arith)
 
-  pub score_stands : score_in (step_of s c).answer ≡ some e → get_or (step_of s c).state.entries (step_of s c).state.offset no_score ≡ e
-  score_stands = step_cases s c (λ o. score_in o.answer ≡ some e → get_or o.state.entries o.state.offset no_score ≡ e) (λ f h. none_given h) (λ q cut i h. none_given h) stands
+  pub score_stands : score_in (step_of s c).answer ≡ Some e → get_or (step_of s c).state.entries (step_of s c).state.offset no_score ≡ e
+  score_stands = step_cases s c (λ o. score_in o.answer ≡ Some e → get_or o.state.entries o.state.offset no_score ≡ e) (λ f h. none_given h) (λ q cut i h. none_given h) stands
     where
       t : Turn
       t = progress_of s c
 
       stands : step_fault s c ≡ 0 → lookahead_offset s.settings < c.set_length → is_none s.settings ≡ false
-          → ◌≡◌ {A = Option ScenecutResult} (some (get_or t.entries t.offset no_score)) (some e)
+          → ◌≡◌ {A = Option ScenecutResult} (Some (get_or t.entries t.offset no_score)) (Some e)
           → get_or (rule7 s.settings t.entries) t.offset no_score ≡ e
       stands q l m h =
           let same : get_or t.entries t.offset no_score ≡ e = cc in

@@ -1,18 +1,15 @@
 -- Each contract of this crate allows one outcome alone. Assumes nothing.
 use mathlib.Core.Path.{◌≡◌, refl, sym, ◌∙◌, ap}
-use mathlib.Core.Bool.{Bool, true}
-use mathlib.Core.Option.{Option, none, some}
+use mathlib.Core.Bool.{true}
+use Rattle.std.specs.Prelude.{Option, Some, None, Result, Ok, Err}
 use Rattle.answer.specs.Answer.{Answer, gives, refused}
 use Rattle.answer.specs.Unique.{OneOutcome}
-use Rattle.answer.proofs.Laws.{only}
-use Rattle.score.specs.declared.ScenecutResult.{ScenecutResult}
+use Rattle.answer.specs.declared.Refusal.{Refusal}
+use Rattle.answer.proofs.Laws.{by_number, by_number_of}
 use Rattle.state.specs.State.{View, view}
 use Rattle.state.specs.declared.State.{State}
 use Rattle.detector.specs.declared.Stepped.{Stepped}
-use Rattle.detector.specs.declared.StepAnswer.{StepAnswer}
-use Rattle.detector.specs.declared.StepAnswer.TheVariants.{Refused, Decided}
 use Rattle.detector.specs.declared.Decision.{Decision}
-use Rattle.detector.specs.declared.Decision.TheVariants.{Bare, Scored}
 use Rattle.detector.specs.Step.{Verdict, Outcome, step_answer, outcome, is_refused, HandsBack}
 use Rattle.detector.specs.Fresh.{Opening, opened}
 use Rattle.detector.proofs.fresh.Kinds as fresh-kinds
@@ -24,26 +21,21 @@ use Rattle.detector.proofs.runs.then_step.Reads as then-step-reads
 use Rattle.detector.proofs.runs.run.Kinds as run-kinds
 use Rattle.detector.proofs.runs.run.Reads as run-reads
 
--- the answer with a number and values
-abbrev decision_by : Bool → Option ScenecutResult → Decision
-decision_by cut none = Bare cut
-decision_by cut (some e) = Scored cut e
+-- the result with an answer
+abbrev pub answer_by : Answer Verdict → Result Decision Refusal
+answer_by (gives v) = Ok (record { cut = v.cut; score = v.score })
+answer_by (refused f) = Err (by_number f)
 
-abbrev pub answer_by : Answer Verdict → StepAnswer
-answer_by (gives v) = Decided (decision_by v.cut v.score)
-answer_by (refused f) = Refused f
-
--- two answers with the same number and values are the same
-pub answer_only : (r s : StepAnswer) → step_answer r ≡ step_answer s → r ≡ s
-answer_only = only step_answer answer_by same
+-- two results with the same answer are the same
+pub answer_only : (r s : Result Decision Refusal) → step_answer r ≡ step_answer s → r ≡ s
+answer_only r s p = sym (same r) ∙ ap answer_by p ∙ same s
   where
-    same : (r : StepAnswer) → answer_by (step_answer r) ≡ r
-    same (Refused f) = refl
-    same (Decided (Bare cut)) = refl
-    same (Decided (Scored cut e)) = refl
+    same : (r : Result Decision Refusal) → answer_by (step_answer r) ≡ r
+    same (Ok d) = refl
+    same (Err e) = ap Err (by_number_of e)
 
 -- what is compared of a run: the answer itself, and the next state's view, with its count
-abbrev told : Stepped → StepAnswer × View
+abbrev told : Stepped → Result Decision Refusal × View
 told r = (r.answer, view r.state)
 
 same_told : (r q : Stepped) → outcome r ≡ outcome q → told r ≡ told q
@@ -54,10 +46,10 @@ same_told r q e =
 
 -- what is compared of a step: the same, and of a refused one the very state
 abbrev kept : Answer Verdict → State → Option State
-kept (gives v) s = none
-kept (refused f) s = some s
+kept (gives v) s = None
+kept (refused f) s = Some s
 
-abbrev seen : Stepped → (StepAnswer × View) × Option State
+abbrev seen : Stepped → (Result Decision Refusal × View) × Option State
 seen r = (told r, kept (step_answer r.answer) r.state)
 
 same_kept : (x y : Answer Verdict) (s t u : State) → x ≡ y → (is_refused x ≡ true → t ≡ s) → (is_refused y ≡ true → u ≡ s) → kept x t ≡ kept y u
@@ -65,7 +57,7 @@ same_kept x y s t u e h k = ap (λ (z : Answer Verdict). kept z t) e ∙ by y (�
   where
     by : (y : Answer Verdict) → (is_refused y ≡ true → t ≡ s) → (is_refused y ≡ true → u ≡ s) → kept y t ≡ kept y u
     by (gives v) h k = refl
-    by (refused f) h k = ap some (h refl ∙ sym (k refl))
+    by (refused f) h k = ap Some (h refl ∙ sym (k refl))
 
 same_seen : (s : State) (r q : Stepped) → outcome r ≡ outcome q → HandsBack r s → HandsBack q s → seen r ≡ seen q
 same_seen s r q e h k =
@@ -74,11 +66,11 @@ same_seen s r q e h k =
 pub fresh_unique : OneOutcome 0 fresh-kinds.ps fresh-kinds.r Opening (λ κs r e. opened r) fresh-reads.Post
 fresh_unique κs a r r' e e' p q = p ∙ sym q
 
-pub step_unique : OneOutcome 3 step-kinds.ps step-kinds.r ((StepAnswer × View) × Option State) (λ κs r e. seen r) step-reads.Post
+pub step_unique : OneOutcome 2 step-kinds.ps step-kinds.r ((Result Decision Refusal × View) × Option State) (λ κs r e. seen r) step-reads.Post
 step_unique κs a r r' e e' p q = same_seen _ r r' (p.0 ∙ sym q.0) p.1 q.1
 
-pub then_step_unique : OneOutcome 3 then-step-kinds.ps then-step-kinds.r ((StepAnswer × View) × Option State) (λ κs r e. seen r) then-step-reads.Post
+pub then_step_unique : OneOutcome 2 then-step-kinds.ps then-step-kinds.r ((Result Decision Refusal × View) × Option State) (λ κs r e. seen r) then-step-reads.Post
 then_step_unique κs a r r' e e' p q = same_seen _ r r' (p.0 ∙ sym q.0) p.1 q.1
 
-pub run_unique : OneOutcome 6 run-kinds.ps run-kinds.r (StepAnswer × View) (λ κs r e. told r) run-reads.Post
+pub run_unique : OneOutcome 6 run-kinds.ps run-kinds.r (Result Decision Refusal × View) (λ κs r e. told r) run-reads.Post
 run_unique κs a r r' e e' p q = same_told r r' (p ∙ sym q)

@@ -1,6 +1,7 @@
 -- A fresh detector: "The offset o starts as A", no entry, and "both are 0 until then" for the first and the release number. It is
 -- refused with 6 or 5 by its settings.
 use Rattle.std.specs.Prelude.{[], ℕ}
+use Rattle.answer.specs.Answer.{fault_in}
 use Rattle.settings.specs.declared.Settings.{Settings}
 use Rattle.settings.specs.Settings.{lookahead_offset, settings_fault}
 use Rattle.state.specs.State.{View, view}
@@ -23,7 +24,7 @@ pub record Opening : Type 0 where
   pub state : View
 
 abbrev pub opened : Opened → Opening
-opened r = record { fault = r.fault; state = view r.state }
+opened r = record { fault = fault_in r.answer; state = view r.state }
 
 abbrev pub opened_of : Settings → Opening
 opened_of g = record { fault = settings_fault g; state = fresh_view g }

@@ -1,10 +1,11 @@
 -- Histories: calls as they were made, and what came back. A detector that runs is known by its contracts alone, so a history is any list of
 -- calls and results, each of which the contracts allow. Refused calls may stand anywhere in it.
-use Rattle.std.specs.Prelude.{◌≡◌, List, [], ◌∷◌, map, Bool, not, cond}
+use Rattle.std.specs.Prelude.{◌≡◌, List, [], ◌∷◌, map, Bool, not, cond, Result, Ok}
+use Rattle.answer.specs.declared.Refusal.{Refusal}
 use Rattle.settings.specs.declared.Settings.{Settings}
 use Rattle.state.specs.State.{Call, view}
 use Rattle.state.specs.declared.State.{State}
-use Rattle.detector.specs.declared.StepAnswer.{StepAnswer}
+use Rattle.detector.specs.declared.Decision.{Decision}
 use Rattle.detector.specs.Fresh.{opened, opened_of}
 use Rattle.detector.specs.Step.{step_answer, is_refused, outcome, HandsBack, step_of}
 
@@ -72,9 +73,9 @@ accepted_calls {D} h = accepted_in D h.made
 abbrev pub by_value : Detector
 by_value = record {
   Kept = State;
-  Reply = StepAnswer;
-  accepts = λ (a : StepAnswer). not (is_refused (step_answer a));
-  Begins = λ (g : Settings) (s : State). opened (record { fault = 0; state = s }) ≡ opened_of g;
-  Allows = λ (s : State) (c : Call) (a : StepAnswer) (t : State).
+  Reply = Result Decision Refusal;
+  accepts = λ (a : Result Decision Refusal). not (is_refused (step_answer a));
+  Begins = λ (g : Settings) (s : State). opened (record { answer = Ok tt; state = s }) ≡ opened_of g;
+  Allows = λ (s : State) (c : Call) (a : Result Decision Refusal) (t : State).
       (outcome (record { answer = a; state = t }) ≡ step_of (view s) c) × HandsBack (record { answer = a; state = t }) s;
 }

@@ -1,7 +1,8 @@
 -- Document 01, "The step", whole: "The step answers either a refusal or a decision with its score, if there is one."
-use Rattle.std.specs.Prelude.{◌≡◌, Bool, true, false, cond, ℕ, ◌-◌, eqb, get_or}
-use Rattle.std.proofs.Math.Option.{Option, none, some}
+use Rattle.std.specs.Prelude.{◌≡◌, Bool, true, false, cond, ℕ, ◌-◌, eqb, get_or, Option, Some, None, Result, Ok, Err}
+use Rattle.answer.specs.declared.Refusal.{Refusal}
 use Rattle.answer.specs.Answer.{Answer, gives, refused}
+use Rattle.answer.specs.Refusal.{number_of}
 use Rattle.settings.specs.declared.Settings.{Settings}
 use Rattle.settings.specs.Settings.{is_none, is_fast}
 use Rattle.score.specs.declared.ScenecutResult.{ScenecutResult}
@@ -11,10 +12,7 @@ use Rattle.state.specs.State.{View, Call, view}
 use Rattle.state.specs.declared.State.{State}
 use Rattle.state.specs.Refusals.{step_fault}
 use Rattle.detector.specs.declared.Stepped.{Stepped}
-use Rattle.detector.specs.declared.StepAnswer.{StepAnswer}
-use Rattle.detector.specs.declared.StepAnswer.TheVariants.{Refused, Decided}
 use Rattle.detector.specs.declared.Decision.{Decision}
-use Rattle.detector.specs.declared.Decision.TheVariants.{Bare, Scored}
 use Rattle.detector.specs.Rules.{measure_of, Turn, rule2, rule3, rule4, rule5, rule6, rule7, next_of}
 
 -- ---- what the step answers, and the state beside it
@@ -27,14 +25,13 @@ pub record Outcome : Type 0 where
   pub answer : Answer Verdict
   pub state : View
 
--- the number and the values of each case of the enums
+-- the values of a decision, or the number of a refusal
 abbrev pub verdict : Decision → Verdict
-verdict (Bare cut) = record { cut = cut; score = none }
-verdict (Scored cut score) = record { cut = cut; score = some score }
+verdict d = record { cut = d.cut; score = d.score }
 
-abbrev pub step_answer : StepAnswer → Answer Verdict
-step_answer (Refused f) = refused f
-step_answer (Decided d) = gives (verdict d)
+abbrev pub step_answer : Result Decision Refusal → Answer Verdict
+step_answer (Ok d) = gives (verdict d)
+step_answer (Err e) = refused (number_of e)
 
 abbrev pub outcome : Stepped → Outcome
 outcome r = record { answer = step_answer r.answer; state = view r.state }
@@ -64,12 +61,12 @@ progress_of s c =
 
 -- a decision without a score: "o and the deque unchanged"
 abbrev pub bare_of : View → ℕ → ℕ → Bool → Outcome
-bare_of s long n cut = record { answer = gives (record { cut = cut; score = none }); state = next_of s long n s.entries s.offset }
+bare_of s long n cut = record { answer = gives (record { cut = cut; score = None }); state = next_of s long n s.entries s.offset }
 
 -- a decision with the score of entry o, and the state after rule 7
 abbrev pub scored_of : View → Call → Turn → Outcome
 scored_of s c t = record {
-  answer = gives (record { cut = rule6 s.settings (c.number - c.keyframe) t; score = some (get_or t.entries t.offset no_score) });
+  answer = gives (record { cut = rule6 s.settings (c.number - c.keyframe) t; score = Some (get_or t.entries t.offset no_score) });
   state = next_of s c.set_length c.number (rule7 s.settings t.entries) t.offset;
 }
 

@@ -1,73 +1,20 @@
--- The entries out of range: some are exactly when their count is not 0. Assumes nothing.
-use mathlib.Core.Path.{◌≡◌, refl, ap}
+-- The entries out of range, and the refusals. Assumes nothing.
+use mathlib.Core.Path.{◌≡◌, refl}
 use mathlib.Core.Bool.{Bool, true, false, cond, not}
 use mathlib.Core.List.{List, [], ◌∷◌}
-use Prim.Native.Nat.{ℕ, zero, suc, ◌+◌, ◌-◌, ◌*◌, ◌≤◌, ◌<◌}
+use Prim.Native.Nat.{ℕ, zero, suc, ◌*◌, ◌≤◌, ◌<◌}
 use native.Mathlib.Decide.{dec_lt}
-use native.Mathlib.Numerals.{add-one}
 use native.Mathlib.Omega.{arith}
-use borrow.Author.Tests.{lt-ltb, le-ltb, ltb-true, ltb-false, ne_eqb, eq-eqb, eqb-true, not-false}
+use borrow.Author.Tests.{le-ltb, ltb-false, ne_eqb, eq-eqb, eqb-true, not-false}
 use lib.Dec.{eqb}
-use lib.IntN.{ℤ, pos, negsuc, nat_abs}
-use lib.ListN.{length, get_or, drop, drop_of_length-le, get_or-eq_default}
-use lib.Seq.{drop-cons}
-use lib.Signed.{lt_z}
+use lib.IntN.{ℤ, pos, nat_abs}
+use lib.ListN.{length, get_or, get_or-eq_default}
 use Rattle.answer.specs.Refusal.{refusal}
 use Rattle.answer.proofs.Laws.{or_given, or_later, or_none, passed, lent_written}
 use Rattle.sums.specs.Table.{table}
 use Rattle.sums.proofs.TableLaws.{length_table, table_at}
 use Rattle.hadamard.specs.Transform.{entry_most, beyond_most, some_beyond, transform_fault, transformed, after_transform}
-use Rattle.hadamard.specs.Steps.{count_beyond, AllWithin}
-
--- ---- the tests of one entry
-pub below_least : (z : ℤ) → lt_z z (negsuc (entry_most - 1)) ≡ true → 1 ≡ refusal 1 (beyond_most z)
-below_least (pos n) e = let q : ◌≡◌ {A = Bool} false true = e in let w : ◌≡◌ {A = ℕ} 0 1 = cc in absurd (omega arith)
-below_least (negsuc n) e = rw (lt-ltb entry_most (suc n) (omega (arith, ltb-true (entry_most - 1) n e)))
-
-pub above_most : (z : ℤ) → lt_z (pos entry_most) z ≡ true → 1 ≡ refusal 1 (beyond_most z)
-above_most (pos n) e = rw e
-above_most (negsuc n) e = let q : ◌≡◌ {A = Bool} false true = e in let w : ◌≡◌ {A = ℕ} 0 1 = cc in absurd (omega arith)
-
-pub between : (z : ℤ) → lt_z z (negsuc (entry_most - 1)) ≡ false → lt_z (pos entry_most) z ≡ false → 0 ≡ refusal 1 (beyond_most z)
-between (pos n) d e = rw e
-between (negsuc n) d e = rw (le-ltb entry_most (suc n) (omega (arith, ltb-false (entry_most - 1) n d)))
-
--- ---- the count
-pub none_passed : (l : List ℤ) → count_beyond l ≡ 0 + count_beyond (drop 0 l)
-none_passed l = omega arith
-
-pub one_passed : (l : List ℤ) (n i : ℕ) → i < length l → count_beyond l ≡ n + count_beyond (drop i l)
-    → count_beyond l ≡ (n + refusal 1 (beyond_most (get_or l i (pos 0)))) + count_beyond (drop (i + 1) l)
-unfolding count_beyond
-one_passed l n i h e =
-    let here = ap count_beyond (drop-cons l i (pos 0) h) in
-    rw add-one (omega (arith, e, here))
-
-pub all_passed : (l : List ℤ) (n i : ℕ) → length l ≤ i → count_beyond l ≡ n + count_beyond (drop i l) → n ≡ count_beyond l
-unfolding count_beyond
-all_passed l n i h e = let rest = ap count_beyond (drop_of_length-le l h) in omega (arith, e, rest)
-
-pub one_at_most : (t : Bool) → refusal 1 t ≤ 1
-one_at_most true = omega arith
-one_at_most false = omega arith
-
-counted : (t : Bool) (n : ℕ) (b : Bool) → ((n ≡ 0 → ⊥) → b ≡ true) → (refusal 1 t + n ≡ 0 → ⊥) → cond t true b ≡ true
-counted true n b f h = refl
-counted false n b f h = f (λ e. h (omega arith))
-
-uncounted : (t : Bool) (n : ℕ) (b : Bool) → (n ≡ 0 → b ≡ false) → refusal 1 t + n ≡ 0 → cond t true b ≡ false
-uncounted true n b f e = absurd (omega arith)
-uncounted false n b f e = f (omega arith)
-
-pub some_counted : (l : List ℤ) → (count_beyond l ≡ 0 → ⊥) → some_beyond l ≡ true
-unfolding some_beyond count_beyond
-some_counted [] h = absurd (h refl)
-some_counted (z ∷ l) h = counted (beyond_most z) (count_beyond l) (some_beyond l) (some_counted l) h
-
-pub none_counted : (l : List ℤ) → count_beyond l ≡ 0 → some_beyond l ≡ false
-unfolding some_beyond count_beyond
-none_counted [] e = refl
-none_counted (z ∷ l) e = uncounted (beyond_most z) (count_beyond l) (some_beyond l) (none_counted l) e
+use Rattle.hadamard.specs.Steps.{AllWithin}
 
 -- where none is out of range, every one is within it
 unpicked : (t b : Bool) → cond t true b ≡ false → (t ≡ false) × (b ≡ false)

@@ -4,93 +4,65 @@
 #![tactic(auto)]
 
 ghost use Rattle.std.specs.Prelude.{◌≡◌, ◌+◌, ◌*◌, ◌<◌, ◌^◌, nat_abs, length};
-ghost use Rattle.answer.specs.Refusal.{refusal};
-ghost use Rattle.hadamard.specs.Transform.{output, entry_most, beyond_most, transform_fault, after_transform};
-ghost use Rattle.hadamard.specs.Steps.{count_beyond, two_of, four_of, nth, stage_of, FourWithin, line_entry, stores, lined_by, lined, all_lined_by, all_lined, LineIn, LinesIn, line_most, stage_most, out_most};
+ghost use Rattle.answer.specs.Answer.{fault_in};
+ghost use Rattle.hadamard.specs.Transform.{output, entry_most, some_beyond, transform_fault, after_transform};
+ghost use Rattle.hadamard.specs.Steps.{two_of, four_of, nth, stage_of, AllWithin, line_entry, stores, lined_by, lined, all_lined_by, all_lined, LineIn, LinesIn, line_most, stage_most, out_most};
 
-// The largest entry, and the least.
-const MOST: i32 = 65535;
+use answer::Refusal;
 
-const LEAST: i32 = -65535;
-
-// Four entries of a line.
-#[derive(Clone, Copy)]
-struct Four {
-    x0: i32,
-    x1: i32,
-    x2: i32,
-    x3: i32,
-}
-
-// A sum and a difference.
-#[derive(Clone, Copy)]
-struct Two {
-    sum: i32,
-    difference: i32,
-}
+// The largest entry, in size.
+const MOST: u32 = 65535;
 
 // The sum and the difference of two numbers: every step of the transform.
-fn butterfly(a: i32, b: i32) -> Two
+fn butterfly(a: i32, b: i32) -> (i32, i32)
     requires a_bound { nat_abs a < 2 ^ 30 }
     requires b_bound { nat_abs b < 2 ^ 30 }
     ensures { result ≡ two_of a b }
 {
-    Two {
-        sum: a + b,
-        difference: a - b,
-    }
+    (a + b, a - b)
 }
 
 // The sums of two pairs of neighbours, and then their differences: a stage of the transform.
-fn paired(x: Four) -> Four
-    requires { FourWithin stage_most x }
+fn paired(x: [i32; 4]) -> [i32; 4]
+    requires { AllWithin stage_most x }
     ensures { result ≡ four_of (stage_of (nth x)) }
 {
-    let a = butterfly(x.x0, x.x1);
-    let b = butterfly(x.x2, x.x3);
-    Four {
-        x0: a.sum,
-        x1: b.sum,
-        x2: a.difference,
-        x3: b.difference,
-    }
+    let (sum, difference) = butterfly(x[0], x[1]);
+    let (next_sum, next_difference) = butterfly(x[2], x[3]);
+    [sum, next_sum, difference, next_difference]
 }
 
 // The transform of four numbers: two stages.
-fn network(x: Four) -> Four
-    requires { FourWithin line_most x }
+fn network(x: [i32; 4]) -> [i32; 4]
+    requires { AllWithin line_most x }
     ensures { result ≡ four_of (output 4 (nth x)) }
 {
     paired(paired(x))
 }
 
 // The four entries from place at on, a step apart.
-fn load(block: &[i32], at: usize, step: usize) -> Four
+fn load(block: &[i32], at: usize, step: usize) -> [i32; 4]
     requires { at + 3 * step < length block.now }
     ensures { result ≡ four_of (line_entry block.now at step) }
 {
-    Four {
-        x0: block[at + 0 * step],
-        x1: block[at + 1 * step],
-        x2: block[at + 2 * step],
-        x3: block[at + 3 * step],
-    }
+    [
+        block[at],
+        block[at + step],
+        block[at + 2 * step],
+        block[at + 3 * step],
+    ]
 }
 
 // Puts four numbers into these places.
-fn store(block: &mut [i32], at: usize, step: usize, y: Four)
+fn store(block: &mut [i32], at: usize, step: usize, y: [i32; 4])
     requires step_in_bounds { at + 3 * step < length block.old }
-    requires four_within { FourWithin out_most y }
+    requires four_within { AllWithin out_most y }
     ensures { block.new ≡ stores 4 at step (nth y) block.old }
 {
-    let y0 = y.x0;
-    let y1 = y.x1;
-    let y2 = y.x2;
-    let y3 = y.x3;
-    block[at + 0 * step] = y0;
-    block[at + 1 * step] = y1;
-    block[at + 2 * step] = y2;
-    block[at + 3 * step] = y3;
+    block[at] = y[0];
+    block[at + step] = y[1];
+    block[at + 2 * step] = y[2];
+    block[at + 3 * step] = y[3];
 }
 
 // The transform of a line of four entries, in their places.
@@ -98,11 +70,11 @@ fn line4(block: &mut [i32], at: usize, step: usize)
     requires { LineIn 4 at step line_most block.old }
     ensures { block.new ≡ lined 4 at step block.old }
 {
-    let y = network(load(&block[..], at, step));
+    let y = network(load(block, at, step));
     store(block, at, step, y);
 }
 
-// The transform of four lines of four.
+// The transform of four lines of four. (By number: the entries of a line lie a step apart, so no iterator over parts gives a line.)
 fn lines(block: &mut [i32], first: usize, step: usize)
     requires { LinesIn 4 4 first step line_most block.old }
     ensures { block.new ≡ all_lined 4 first step 4 block.old }
@@ -138,11 +110,11 @@ fn stage(block: &mut [i32], at: usize, step: usize)
     requires { LineIn 4 at step stage_most block.old }
     ensures { block.new ≡ lined_by stage_of 4 at step block.old }
 {
-    let y = paired(load(&block[..], at, step));
+    let y = paired(load(block, at, step));
     store(block, at, step, y);
 }
 
-// A stage of 16 rows of four.
+// A stage of 16 rows of four. (By number: of what is written through `as_chunks_mut` a proof knows nothing.)
 fn stage_rows(block: &mut [i32])
     requires { LinesIn 4 16 4 1 stage_most block.old }
     ensures { block.new ≡ all_lined_by stage_of 4 4 1 16 block.old }
@@ -163,66 +135,48 @@ fn rows(block: &mut [i32])
     stage_rows(block);
 }
 
-// 1 for an entry out of range, else 0.
-fn beyond(v: i32) -> u32
-    ensures { result ≡ refusal 1 (beyond_most v) }
+// Whether an entry is out of range. It looks at every entry, since the compiler makes vector code of a loop that is not left early.
+fn some_beyond(block: &[i32]) -> bool
+    ensures { result ≡ some_beyond block.now }
 {
-    if v < LEAST {
-        return 1;
-    }
-    if MOST < v { 1 } else { 0 }
+    block
+        .iter()
+        .fold(false, |some, v| some | (v.unsigned_abs() > MOST))
 }
 
-// How many entries are out of range. It looks at every entry, since the compiler makes vector code of a loop that is
-// not left early.
-fn count_beyond(block: &[i32]) -> u32
-    requires { length block.now < 2 ^ 32 }
-    ensures { result ≡ count_beyond block.now }
-{
-    let mut n = 0;
-    for i in 0..block.len() {
-        n += beyond(block[i]);
-    }
-    n
-}
-
-// The refusal of a list as n rows of n entries, or 0.
-fn fault(block: &[i32], n: usize) -> u32
+// The refusal of a list as n rows of n entries.
+fn fault(block: &[i32], n: usize) -> Result<(), Refusal>
     requires { n * n < 2 ^ 32 }
-    ensures { result ≡ transform_fault n block.now }
+    ensures { fault_in result ≡ transform_fault n block.now }
 {
     if block.len() != n * n {
-        return 2;
+        return Err(Refusal::PastSamples);
     }
-    if count_beyond(block) != 0 {
-        return 10;
+    if some_beyond(block) {
+        return Err(Refusal::BadList);
     }
-    0
+    Ok(())
 }
 
-// The transform of 16 entries, four rows of four, in their place: 0, or the number of the refusal.
-pub fn hadamard4x4(block: &mut [i32]) -> u32
-    ensures value { result ≡ transform_fault 4 block.old }
+// The transform of 16 entries, four rows of four, in their place.
+#[tactic(auto, using(answer::proofs::Laws::lents))]
+pub fn hadamard4x4(block: &mut [i32]) -> Result<(), Refusal>
+    ensures value { fault_in result ≡ transform_fault 4 block.old }
     ensures block_after { block.new ≡ after_transform 4 block.old }
 {
-    let refused = fault(&block[..], 4);
-    if refused != 0 {
-        return refused;
-    }
+    fault(block, 4)?;
     line16(block, 1);
-    0
+    Ok(())
 }
 
-// The transform of 64 entries, eight rows of eight, in their place: 0, or the number of the refusal.
-pub fn hadamard8x8(block: &mut [i32]) -> u32
-    ensures value { result ≡ transform_fault 8 block.old }
+// The transform of 64 entries, eight rows of eight, in their place.
+#[tactic(auto, using(answer::proofs::Laws::lents))]
+pub fn hadamard8x8(block: &mut [i32]) -> Result<(), Refusal>
+    ensures value { fault_in result ≡ transform_fault 8 block.old }
     ensures block_after { block.new ≡ after_transform 8 block.old }
 {
-    let refused = fault(&block[..], 8);
-    if refused != 0 {
-        return refused;
-    }
+    fault(block, 8)?;
     columns(block);
     rows(block);
-    0
+    Ok(())
 }

@@ -2,9 +2,9 @@
 -- stay a state. And places that show the same but for two numbers are the same to whoever reads them.
 -- Assumes nothing.
 use mathlib.Core.Path.{◌≡◌, refl, sym, ◌∙◌, ap}
-use mathlib.Core.Bool.{true, false, not}
+use mathlib.Core.Bool.{Bool, true, false, not, cond}
 use mathlib.Core.List.{List, [], ◌∷◌, ◌++◌}
-use mathlib.Core.Option.{Option, none, some}
+use Rattle.std.specs.Prelude.{Option, Some, None}
 use Prim.Native.Nat.{ℕ, zero, suc, ◌*◌, ◌≤◌, ◌<◌}
 use native.Mathlib.Omega.{arith}
 use borrow.Author.Tests.{eqb-false, not-false}
@@ -23,9 +23,11 @@ use Rattle.score.specs.declared.ScenecutResult.{ScenecutResult}
 use Rattle.score.specs.Deque.{no_score}
 use Rattle.state.specs.State.{View, Call}
 use Rattle.state.specs.Refusals.{state_fault, step_fault}
+use Rattle.answer.specs.declared.Refusal.TheVariants.{BadState}
 use Rattle.state.proofs.Well.{well}
+use Rattle.state.proofs.Refused.{is_refusal}
 use Rattle.detector.specs.Fresh.{fresh_view}
-use Rattle.detector.specs.Step.{Verdict, Outcome, is_refused, step_of}
+use Rattle.detector.specs.Step.{Verdict, Outcome, is_refused, step_answer, step_of}
 use Rattle.detector.specs.Runs.{compared}
 use Rattle.detector.specs.Numbers.{AlwaysNumbered}
 use Rattle.detector.proofs.Cases.{step_refused}
@@ -66,13 +68,13 @@ module _ (ns : List ℕ) (xs : List Float) (is : is_state ns xs ≡ true) where
       (written_long ns s rest long.0 (omega (arith, pairs v.score, length-drop pairs_place ns, long.0))) (by v.score)
     where
       pairs : (o : Option ScenecutResult) → length (pairs_by o s (drop pairs_place ns)) ≡ length (drop pairs_place ns)
-      pairs none = refl
-      pairs (some e) = pairs_long s.entries (drop pairs_place ns) (omega (arith, few v refl, length-drop pairs_place ns, long.0))
+      pairs None = refl
+      pairs (Some e) = pairs_long s.entries (drop pairs_place ns) (omega (arith, few v refl, length-drop pairs_place ns, long.0))
 
       by : (o : Option ScenecutResult)
           → length (scores_after (record { answer = gives (record { cut = v.cut; score = o }); state = s }) xs) ≡ scores_long
-      by none = long.1
-      by (some e) = placed_long s.entries xs (omega (arith, few v refl, long.1)) ∙ long.1
+      by None = long.1
+      by (Some e) = placed_long s.entries xs (omega (arith, few v refl, long.1)) ∙ long.1
 
 -- ---- each call is `step_of` of the state in them
 
@@ -149,11 +151,19 @@ places_after p c = record {
   scores = scores_after (lent_step p.numbers p.scores c) p.scores;
 }
 
+pub lent_back : (p : Places) (c : Call) → let a = (lent_step p.numbers p.scores c).answer in step_answer (answer_by a) ≡ a
+lent_back p c = by (is_state p.numbers p.scores)
+  where
+    by : (x : Bool)
+        → let a = (cond x (step_of (seen p) c) (record { answer = refused 11; state = seen p })).answer in step_answer (answer_by a) ≡ a
+    by true = answer_back (seen p) c
+    by false = ap refused (is_refusal BadState true (λ z. omega arith))
+
 abbrev pub places_make : Makes by_places
 places_make = record {
   reply = λ (p : Places) (c : Call). answer_by (lent_step p.numbers p.scores c).answer;
   after = places_after;
-  allowed = λ p c. (answer_back (lent_step p.numbers p.scores c).answer, (refl, refl));
+  allowed = λ p c. (lent_back p c, (refl, refl));
 }
 
 abbrev pub fresh_places : List ℕ → List Float → Settings → Places

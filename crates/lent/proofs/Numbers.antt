@@ -4,7 +4,7 @@ use mathlib.Core.List.{List, ◌++◌}
 use Prim.Native.Nat.{ℕ, ◌+◌, ◌≤◌, ◌<◌}
 use native.Mathlib.Omega.{arith}
 use lib.ListN.{length, take, drop, get_or, get_or-append, length-append, length-drop}
-use lib.Seq.{get_or-append-add, get_or-take, length-take-le, take_at, drop_at}
+use lib.Seq.{get_or-append-add, get_or-take, length-take-le, drop_at}
 use Rattle.score.specs.declared.ScenecutResult.{ScenecutResult}
 use Rattle.score.specs.Numbers.{numbers_of}
 use Rattle.score.proofs.PairLaws.{numbers_long_lem}
@@ -51,13 +51,6 @@ module _ (ns : List ℕ) (s : View) (rest : List ℕ) (size : length ns ≡ numb
       ∙ get_or-append-add (take settings_long ns) (call_numbers s) i 0
 
   -- and then the rest
-  before_rest : take pairs_place (written ns s rest) ≡ take settings_long ns ++ call_numbers s
-  before_rest = take_at (take settings_long ns ++ call_numbers s) rest pairs_place front_long
 
   pub behind : drop pairs_place (written ns s rest) ≡ rest
   behind = drop_at (take settings_long ns ++ call_numbers s) rest pairs_place front_long
-
--- pair numbers that are written after the call's
-pub pairs_written : (ns : List ℕ) (s : View) (l : List ScenecutResult) → length ns ≡ numbers_long → let out = written ns s (drop pairs_place ns) in
-    take pairs_place out ++ pairs_placed l (drop pairs_place out) ≡ written ns s (pairs_placed l (drop pairs_place ns))
-pairs_written ns s l size = rw (before_rest ns s (drop pairs_place ns) size, behind ns s (drop pairs_place ns) size)

@@ -3,7 +3,7 @@
 use mathlib.Core.Path.{◌≡◌, refl, sym, ap, ◌∙◌}
 use mathlib.Core.Bool.{true}
 use mathlib.Core.List.{List, [], ◌∷◌, ◌++◌}
-use mathlib.Core.Option.{Option, none, some}
+use Rattle.std.specs.Prelude.{Option, Some, None}
 use Prim.Native.Nat.{ℕ, zero, suc, ◌+◌, ◌≤◌, ◌<◌}
 use native.Mathlib.Omega.{arith}
 use lib.Ieee.{Float}
@@ -52,9 +52,9 @@ module _ (ns : List ℕ) (xs : List Float) (c : Call) (size : length ns ≡ numb
   entries_back v e = by v.score refl
     where
       by : (o : Option ScenecutResult) → v.score ≡ o → entries_of (length after.entries) (left v) (scores_after (record { answer = gives v; state = after }) xs) ≡ after.entries
-      by none h =
+      by None h =
           rw (h, entries_kept before c (ap score_in e ∙ h)) (take_least (get_or ns count_place 0) (scores_of room (drop pairs_place ns) xs))
-      by (some x) h =
+      by (Some x) h =
           rw h (read_placed room after.entries (drop (length after.entries) (drop pairs_place ns)) xs (entries_few before c v e))
 
   reads_back : (v : Verdict) → (step_of before c).answer ≡ gives v → state_of (numbers_after (step_of before c) ns) (scores_after (step_of before c) xs) ≡ after
@@ -84,7 +84,7 @@ module _ (ns : List ℕ) (xs : List Float) (c : Call) (is : is_state ns xs ≡ t
   carried v e = rw stepped (reads_back ns xs c size v (rw stepped at e))
 
   -- and the score, if there is one, stands at their offset
-  pub score_placed : (v : Verdict) (e : ScenecutResult) → lent.answer ≡ gives v → v.score ≡ some e
+  pub score_placed : (v : Verdict) (e : ScenecutResult) → lent.answer ≡ gives v → v.score ≡ Some e
       → let t = state_of (numbers_after lent ns) (scores_after lent xs) in get_or t.entries t.offset no_score ≡ e
   score_placed v e a h =
       ap (λ (t : View). get_or t.entries t.offset no_score) (carried v a)

@@ -1,17 +1,15 @@
 -- A pair number and five doubles for each score: reading and writing one score more. Assumes nothing.
 use mathlib.Core.Path.{◌≡◌, refl, sym, ap, ◌∙◌}
-use mathlib.Core.List.{List, [], ◌∷◌, ◌++◌, append-nil}
-use Prim.Native.Nat.{ℕ, zero, suc, ◌+◌, ◌-◌, ◌*◌, ◌≤◌, ◌<◌, min}
+use mathlib.Core.List.{List, [], ◌∷◌, ◌++◌}
+use Prim.Native.Nat.{ℕ, zero, suc, ◌+◌, ◌*◌, ◌≤◌, ◌<◌, min}
 use native.Mathlib.Numerals.{add-one}
 use native.Mathlib.Omega.{arith}
-use borrow.Rule.Slice.PartMut.{put_mid}
-use lib.Ieee.{Float}
-use lib.ListN.{length, take, drop, get_or, set, length-drop, drop_of_length-le}
+use lib.Ieee.{Float, nan}
+use lib.ListN.{length, take, drop, get_or, get_or-append, set}
 use lib.Seq.{take-suc, take-suc-set, drop-drop, get_or-drop}
 use Rattle.settings.specs.Settings.{room}
 use Rattle.score.specs.declared.ScenecutResult.{ScenecutResult}
-use Rattle.score.specs.declared.ScoreDeque.{ScoreDeque}
-use Rattle.score.specs.Deque.{no_score, content}
+use Rattle.score.specs.Deque.{no_score}
 use Rattle.score.proofs.Window.{take_within}
 use Rattle.lent.specs.Places.{score_long, front_score, scores_of, entries_of, pairs_placed, doubles, placed}
 
@@ -32,6 +30,11 @@ score_at (suc k) (suc i) ps xs h =
     score_at k i (drop 1 ps) (drop score_long xs) (omega arith)
     ∙ rw (get_or-drop 1 ps i 0, n) (ap (front_score (get_or ps (suc i) 0)) (drop-drop (i * score_long) score_long xs ∙ ap (λ (n : ℕ). drop n xs) e))
 
+-- a score is read from its own doubles
+pub front_of : (pair : ℕ) (xs rest : List Float) → length xs ≡ score_long → front_score pair (xs ++ rest) ≡ front_score pair xs
+front_of pair xs rest h =
+    rw (get_or-append xs rest nan 0 (omega arith), get_or-append xs rest nan 1 (omega arith), get_or-append xs rest nan 2 (omega arith), get_or-append xs rest nan 3 (omega arith), get_or-append xs rest nan 4 (omega arith))
+
 -- one score more is read
 pub read_more : (out : List ScenecutResult) (ps : List ℕ) (xs : List Float) (i : ℕ) → length out ≡ room → i < room → take i out ≡ take i (scores_of room ps xs)
     → take (i + 1) (set out i (front_score (get_or ps i 0) (drop (i * score_long) xs))) ≡ take (i + 1) (scores_of room ps xs)
@@ -40,6 +43,11 @@ read_more out ps xs i n h e =
     rw add-one
     (take-suc-set out i (front_score (get_or ps i 0) (drop (i * score_long) xs)) (omega arith)
     ∙ rw (e, ← score_at room i ps xs h) (sym (take-suc (scores_of room ps xs) i no_score l)))
+
+-- after i of c scores, with n to come: where none comes though there are more, the room is full
+pub all_read : (n i c : ℕ) → n + i ≡ c → i ≤ room → (0 < n → room ≤ i) → i ≡ min c room
+all_read zero i c e h f = omega arith
+all_read (suc n) i c e h f = let k = f (omega arith) in omega arith
 
 -- as many as there is room for are all
 pub read_all : (c : ℕ) (out : List ScenecutResult) (ps : List ℕ) (xs : List Float) → length out ≡ room → take (min c room) out ≡ take (min c room) (scores_of room ps xs)
@@ -71,15 +79,8 @@ pair_more (e ∷ l) i [] h k = absurd (omega arith)
 pair_more (e ∷ l) zero (p ∷ ps) h k = refl
 pair_more (e ∷ l) (suc i) (p ∷ ps) h k = ap (λ (r : List ℕ). e.pair_number ∷ r) (pair_more l i ps (omega arith) (omega arith))
 
--- a part that runs to the end, written back
-pub put_last : (a : ℕ) (out ys : List Float) → a ≤ length out → put_mid a (length out - a) out ys ≡ take a out ++ ys
-put_last a out ys h = rw (drop_of_length-le (drop a out) {i = length out - a} (omega (arith, length-drop a out)), append-nil ys)
-
 -- as many entries as a deque holds are what it holds
 pub take_least : (n : ℕ) (l : List ScenecutResult) → take (length (take n l)) l ≡ take n l
 take_least zero l = refl
 take_least (suc n) [] = refl
 take_least (suc n) (e ∷ l) = ap (λ (r : List ScenecutResult). e ∷ r) (take_least n l)
-
-pub take_content : (d : ScoreDeque) → take (length (content d)) d.entries ≡ content d
-take_content d = take_least d.count d.entries

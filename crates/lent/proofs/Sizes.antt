@@ -4,7 +4,7 @@ use mathlib.Core.Bool.{true, false, not}
 use mathlib.Core.List.{List}
 use Prim.Native.Nat.{ℕ}
 use native.Mathlib.Omega.{arith}
-use borrow.Author.Tests.{eq-eqb, ne_eqb, eqb-true}
+use borrow.Author.Tests.{eq-eqb, eqb-true}
 use lib.Dec.{eqb}
 use lib.ListN.{length}
 use lib.Ieee.{Float}
@@ -17,12 +17,6 @@ use Rattle.lent.specs.Places.{numbers_long, scores_long, is_state}
 use Rattle.lent.specs.Lent.{fresh_fault}
 
 module _ (ns : List ℕ) (xs : List Float) where
-  pub other_numbers : (length ns ≡ numbers_long → ⊥) → is_state ns xs ≡ false
-  other_numbers h = rw (ne_eqb (length ns) numbers_long h)
-
-  pub other_scores : length ns ≡ numbers_long → (length xs ≡ scores_long → ⊥) → is_state ns xs ≡ false
-  other_scores e h = rw (eq-eqb (length ns) numbers_long e, ne_eqb (length xs) scores_long h)
-
   pub both : length ns ≡ numbers_long → length xs ≡ scores_long → is_state ns xs ≡ true
   both e f = rw (eq-eqb (length ns) numbers_long e, eq-eqb (length xs) scores_long f)
 

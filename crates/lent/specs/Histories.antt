@@ -1,10 +1,11 @@
 -- The detector over lent places as one that runs: what is kept between calls are the two places, and what a call leaves in them is
 -- what the contracts of `fresh` and `step` say (proofs/Contracts.antt: word for word).
-use Rattle.std.specs.Prelude.{◌≡◌, List, ℕ, ◌+◌, ◌*◌, ◌<◌, take, get_or, set, Float}
+use Rattle.std.specs.Prelude.{◌≡◌, List, ℕ, ◌+◌, ◌*◌, ◌<◌, take, get_or, set, Float, Result}
+use Rattle.answer.specs.declared.Refusal.{Refusal}
 use Rattle.std.specs.Float.{nan}
 use Rattle.settings.specs.declared.Settings.{Settings}
 use Rattle.state.specs.State.{Call}
-use Rattle.detector.specs.declared.StepAnswer.{StepAnswer}
+use Rattle.detector.specs.declared.Decision.{Decision}
 use Rattle.detector.specs.Step.{step_answer}
 use Rattle.detector.specs.Histories.{Detector, by_value}
 use Rattle.lent.specs.Places.{score_long, offset_place, first_number_place, release_place, count_place, pairs_place}
@@ -24,11 +25,11 @@ Leaves p c q =
 abbrev pub by_places : Detector
 by_places = record {
   Kept = Places;
-  Reply = StepAnswer;
+  Reply = Result Decision Refusal;
   accepts = by_value.accepts;
   Begins = λ (g : Settings) (p : Places).
       (before : List ℕ) × (0 ≡ fresh_fault before p.scores g) × (p.numbers ≡ fresh_numbers before p.scores g);
-  Allows = λ (p : Places) (c : Call) (a : StepAnswer) (q : Places).
+  Allows = λ (p : Places) (c : Call) (a : Result Decision Refusal) (q : Places).
       (step_answer a ≡ (lent_step p.numbers p.scores c).answer) × Leaves p c q;
 }
 

@@ -1,6 +1,5 @@
 -- The detector over lent places: what a call answers, and what the places hold at exit.
-use Rattle.std.specs.Prelude.{List, ◌++◌, not, cond, ℕ, Float, take, drop}
-use Rattle.std.proofs.Math.Option.{Option, none, some}
+use Rattle.std.specs.Prelude.{List, ◌++◌, not, cond, ℕ, Float, take, drop, Option, Some, None}
 use Rattle.answer.specs.Answer.{Answer, gives, refused, lent_after}
 use Rattle.answer.specs.Refusal.{refusal, ◌or_else◌}
 use Rattle.settings.specs.declared.Settings.{Settings}
@@ -28,8 +27,8 @@ lent_step ns xs c = cond (is_state ns xs) (step_of (state_of ns xs) c) (record {
 
 -- an accepted call with a score writes the entries' pair numbers, up to the count; one without a score writes none
 abbrev pub pairs_by : Option ScenecutResult → View → List ℕ → List ℕ
-pairs_by none s ps = ps
-pairs_by (some e) s ps = pairs_placed s.entries ps
+pairs_by None s ps = ps
+pairs_by (Some e) s ps = pairs_placed s.entries ps
 
 -- "A refused call writes nothing"; an accepted one the numbers that a call may change
 abbrev numbers_by : Answer Verdict → View → List ℕ → List ℕ
@@ -41,8 +40,8 @@ numbers_after o ns = numbers_by o.answer o.state ns
 
 -- .. and, if there is a score, the entries' doubles: without one "o and the deque unchanged"
 abbrev entries_by : Option ScenecutResult → View → List Float → List Float
-entries_by none s xs = xs
-entries_by (some e) s xs = placed s.entries xs
+entries_by None s xs = xs
+entries_by (Some e) s xs = placed s.entries xs
 
 abbrev scores_by : Answer Verdict → View → List Float → List Float
 scores_by (refused f) s xs = xs

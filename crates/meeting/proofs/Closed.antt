@@ -4,7 +4,7 @@
 use mathlib.Core.Path.{◌≡◌, refl, sym, ap}
 use mathlib.Core.Bool.{Bool, true, false, cond}
 use mathlib.Core.List.{List, [], ◌∷◌, ◌++◌, map}
-use Prim.Native.Nat.{ℕ, zero, suc, ◌+◌, ◌-◌, ◌≤◌, min}
+use Prim.Native.Nat.{ℕ, zero, suc, ◌+◌, ◌-◌, ◌≤◌}
 use native.Mathlib.Omega.{arith}
 use lib.Dec.{ltb}
 use lib.ListN.{length, take, length-append}
@@ -87,9 +87,7 @@ module _ (level : Float) where
   score_take true pair m c l k = refl
   score_take false pair m c l k =
       let read : take span (map inter (take c l)) ≡ take span (map inter l) = rw (← take_map inter c l) (take-take span c (map inter l) k) in
-      let n : min span c ≡ span = omega arith in
-      let behind : updated_of span m.inter (take c l) ≡ take c (updated_of span m.inter l)
-      = rw n at (sym (update_take m.inter true span c l)) in
+      let behind : updated_of span m.inter (take c l) ≡ take c (updated_of span m.inter l) = sym (update_take m.inter true span c l) in
       rw (backward_walk span m.inter (take c l), backward_walk span m.inter l, read, behind)
 
   -- an entry for each pair

@@ -1,5 +1,5 @@
 pub mod Over
 pub mod Laws
-pub mod Steps
+pub mod Words
 pub mod Patterns
 pub mod Unique

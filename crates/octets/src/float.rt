@@ -14,6 +14,7 @@ const ONES: u64 = 0x7ff;
 // The pattern that every NaN is written as.
 const NAN: u64 = 0x7ff8000000000000;
 
+// Whether bits are a NaN's. (Told from the bits: `f64::from_bits` may not be asked of a NaN's.)
 pub fn is_nan(bits: u64) -> bool
     ensures { result ≡ nan_bits binary64 bits }
 {
@@ -24,31 +25,27 @@ pub fn is_nan(bits: u64) -> bool
 pub fn of_bits(bits: u64) -> f64
     ensures { result ≡ of_bits binary64 bits }
 {
-    if bits % SIGN / FRACTION != ONES {
-        return f64::from_bits(bits);
+    if is_nan(bits) {
+        f64::NAN
+    } else {
+        f64::from_bits(bits)
     }
-    if bits % FRACTION == 0 {
-        return f64::from_bits(bits);
-    }
-    0.0 / 0.0
 }
 
 // The bits of a float; of every NaN, the one pattern.
 pub fn bits_of(x: f64) -> u64
     ensures { result ≡ to_bits binary64 x }
 {
-    if x != x {
-        return NAN;
-    }
-    f64::to_bits(x)
+    if x.is_nan() { NAN } else { x.to_bits() }
 }
 
 // Whether a float is the one that has these bits.
 pub fn same(x: f64, bits: u64) -> bool
     ensures { result ≡ has_bits x bits }
 {
-    if x != x {
-        return is_nan(bits);
+    if x.is_nan() {
+        is_nan(bits)
+    } else {
+        x.to_bits() == bits
     }
-    f64::to_bits(x) == bits
 }

@@ -23,6 +23,8 @@ use Rattle.plane.proofs.blocks_fault.Kinds as blocks-fault-kinds
 use Rattle.plane.proofs.blocks_fault.Reads as blocks-fault-reads
 use Rattle.plane.proofs.samples.sample_fault.Kinds as sample-fault-kinds
 use Rattle.plane.proofs.samples.sample_fault.Reads as sample-fault-reads
+use Rattle.plane.proofs.samples.pair_fault.Kinds as pair-fault-kinds
+use Rattle.plane.proofs.samples.pair_fault.Reads as pair-fault-reads
 use Rattle.plane.proofs.samples.reaches.Kinds as reaches-kinds
 use Rattle.plane.proofs.samples.reaches.Reads as reaches-reads
 use Rattle.plane.proofs.samples.rows_large.Kinds as rows-large-kinds
@@ -108,6 +110,21 @@ sample_fault_unique = sample_fault_at byte_depths_type
 
 pub deep_sample_fault_unique : SampleFaultAt word_depths_type
 deep_sample_fault_unique = sample_fault_at word_depths_type
+
+abbrev PairFaultAt : DepthsType → Type 0
+PairFaultAt w =
+    let s = w.of in
+    OneOutcome 3 (pair-fault-kinds.ps s.row s.laws s.copy) (pair-fault-kinds.r s.row s.laws s.copy) (Result Unit Refusal) (λ κs r e. r)
+    (pair-fault-reads.Post s.row s.laws s.copy w.Depths w.Depths_dict s.Sample s.Sample_dict s.Clone s.Clone_dict)
+
+pair_fault_at : (w : DepthsType) → PairFaultAt w
+pair_fault_at w κs a r r' e e' p q = fault_only r r' (p ∙ sym q)
+
+pub pair_fault_unique : PairFaultAt byte_depths_type
+pair_fault_unique = pair_fault_at byte_depths_type
+
+pub deep_pair_fault_unique : PairFaultAt word_depths_type
+deep_pair_fault_unique = pair_fault_at word_depths_type
 
 abbrev ReachesAt : DepthsType → Type 0
 ReachesAt w =

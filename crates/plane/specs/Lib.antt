@@ -1,3 +1,4 @@
 pub mod Planes
 pub mod Blocks
 pub mod Needs
+pub mod Depths

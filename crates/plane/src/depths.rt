@@ -1,6 +1,7 @@
 // Which depths a sample's word has: 8 bits a byte; 10 and 12 a word of 16 bits.
 ghost use Rattle.std.proofs.Common.{rules};
-ghost use Rattle.std.specs.Prelude.{◌≡◌, ℕ, ◌<◌, ◌≤◌, ◌^◌, bit_or};
+ghost use Rattle.std.specs.Prelude.{true, ◌≡◌, ℕ, ◌+◌, ◌<◌, ◌≤◌, ◌^◌, bit_or};
+ghost use Rattle.plane.specs.Depths.{byte_holds, deep_holds};
 ghost use Rattle.plane.specs.Planes.{Word, byte, deep, suits};
 
 use sums::Sample;
@@ -25,6 +26,9 @@ pub trait Depths: Sample {
     ghost narrow: { BITS ≤ 16 };
 
     ghost fits: { Self.Sample.most < 2 ^ BITS };
+
+    // It holds all samples of the depths that suit it.
+    ghost holds: { (depth : ℕ) → suits word depth ≡ true → 2 ^ depth ≤ Self.Sample.most + 1 };
 }
 
 impl Depths for u8 {
@@ -37,6 +41,8 @@ impl Depths for u8 {
     ghost narrow = { Prim.search rules };
 
     ghost fits = { Prim.search rules };
+
+    ghost holds = { byte_holds };
 
     fn suits(depth: u64) -> bool {
         depth == 8
@@ -57,6 +63,8 @@ impl Depths for u16 {
     ghost narrow = { Prim.search rules };
 
     ghost fits = { Prim.search rules };
+
+    ghost holds = { deep_holds };
 
     fn suits(depth: u64) -> bool {
         depth == 10 || depth == 12

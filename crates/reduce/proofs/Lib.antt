@@ -2,4 +2,3 @@ pub mod ReduceLaws
 pub mod RowLaws
 pub mod Promises
 pub mod Unique
-pub mod DeepUnique

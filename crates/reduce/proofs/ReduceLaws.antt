@@ -5,26 +5,28 @@ use mathlib.Core.Path.{◌≡◌, refl, sym, ap, ap₂, subst, ◌∙◌}
 use Prim.Native.Nat.{ℕ, ◌+◌, ◌-◌, ◌*◌, ◌/◌, ◌^◌, ◌≤◌, ◌<◌}
 use native.Mathlib.Nat.{mul_assoc, mul_left_comm, mul-le-mul, mul-le-mul_right, mul-pos, add-mul, zero-mul}
 use native.Mathlib.Omega.{arith}
-use borrow.Author.Tests.{eqb-true, eqb-false, ltb-true}
+use borrow.Author.Tests.{eqb-true, ltb-true}
 use lib.Dec.{eqb, ltb}
-use lib.ListN.{length, get_or, take, drop}
-use Rattle.answer.specs.Refusal.{refusal, ◌or_else◌}
-use Rattle.answer.proofs.Laws.{or_none, or_given, or_later, passed}
+use lib.ListN.{length, get_or, take, drop, length-drop}
+use Rattle.std.proofs.Common.{length-take-le, get_or-take, get_or-drop}
+use Rattle.std.specs.Prelude.{map}
+use Rattle.answer.proofs.Laws.{or_none, or_later, passed}
 use Rattle.plane.specs.Needs.{row_from, square_from}
-use Rattle.plane.specs.Planes.{Word, byte, plane_fault, word_fault, too_large, sample_fault}
+use Rattle.plane.specs.Planes.{Word, plane_fault, word_fault, sample_fault}
 use Rattle.plane.specs.declared.Plane.{Plane}
-use Rattle.plane.proofs.SampleLaws.{bytes_pass, suited, sample_fault_is}
+use Rattle.plane.proofs.SampleLaws.{sample_fault_is}
 use Rattle.plane.proofs.SquareLaws.{part_at, square_most, row_next, square_next}
 use Rattle.sums.specs.Means.{mean_of}
-use Rattle.sums.specs.Needs.{byte_most, word_most}
+use Rattle.sums.specs.Needs.{word_most}
 use Rattle.sums.specs.Sums.{sum_below}
 use Rattle.sums.specs.Table.{table}
 use Rattle.sums.specs.Written.{written}
 use Rattle.sums.proofs.MeanLaws.{mean_most}
+use Rattle.sums.proofs.SampleLaws.{values_take, values_drop}
 use Rattle.sums.proofs.SumLaws.{NextSum, sum_ext, sum_most, sum_more, sum_none, sum_swap, sum_pairs}
 use Rattle.sums.proofs.TableLaws.{table_at}
 use Rattle.sums.proofs.WrittenLaws.{written_value}
-use Rattle.reduce.specs.Reduce.{bad_factor, not_reduced, sides_fault, reduce_fault, sides_by}
+use Rattle.reduce.specs.Reduce.{bad_factor, not_reduced, sides_fault, reduce_fault}
 use Rattle.reduce.specs.Needs.{sum_count, pair_at, pair_from, pairs_from, group_of, mean_from, Half}
 
 -- ---- factors
@@ -64,18 +66,18 @@ pub samples_few : (f : ℕ) → f ≤ 32 → f * f ≤ 1024
 samples_few f h = mul-le-mul h h
 
 -- one above 1 and below 16, by its order
-pub factor_arms : (f : ℕ) → bad_factor f ≡ false → (f ≡ 1 → ⊥) → (f < 4 → f ≡ 2) × (4 ≤ f → f < 8 → f ≡ 4) × (8 ≤ f → f < 16 → f ≡ 8)
+pub factor_arms : (f : ℕ) → bad_factor f ≡ false → 1 < f → (f < 4 → f ≡ 2) × (4 ≤ f → f < 8 → f ≡ 4) × (8 ≤ f → f < 16 → f ≡ 8)
 factor_arms =
-    six (λ (f : ℕ). (f ≡ 1 → ⊥) → (f < 4 → f ≡ 2) × (4 ≤ f → f < 8 → f ≡ 4) × (8 ≤ f → f < 16 → f ≡ 8))
-    (λ h. absurd (h refl)) (λ _. (λ _. refl, λ a _. absurd (omega arith), λ a _. absurd (omega arith)))
+    six (λ (f : ℕ). 1 < f → (f < 4 → f ≡ 2) × (4 ≤ f → f < 8 → f ≡ 4) × (8 ≤ f → f < 16 → f ≡ 8))
+    (λ h. absurd (omega arith)) (λ _. (λ _. refl, λ a _. absurd (omega arith), λ a _. absurd (omega arith)))
     (λ _. (λ a. absurd (omega arith), λ _ _. refl, λ a _. absurd (omega arith))) (λ _. (λ a. absurd (omega arith), λ _ a. absurd (omega arith), λ _ _. refl))
     (λ _. (λ a. absurd (omega arith), λ _ a. absurd (omega arith), λ _ a. absurd (omega arith)))
     (λ _. (λ a. absurd (omega arith), λ _ a. absurd (omega arith), λ _ a. absurd (omega arith)))
 
 -- one above 1 is twice its half, of which a chunk's sums are whole squares
-pub factor_half : (f : ℕ) → bad_factor f ≡ false → (f ≡ 1 → ⊥) → (2 * (f / 2) ≡ f) × Half (f / 2)
+pub factor_half : (f : ℕ) → bad_factor f ≡ false → 1 < f → (2 * (f / 2) ≡ f) × Half (f / 2)
 factor_half =
-    six (λ (f : ℕ). (f ≡ 1 → ⊥) → (2 * (f / 2) ≡ f) × Half (f / 2)) (λ h. absurd (h refl)) (λ _. fits 1 (omega arith) (omega arith) refl)
+    six (λ (f : ℕ). 1 < f → (2 * (f / 2) ≡ f) × Half (f / 2)) (λ h. absurd (omega arith)) (λ _. fits 1 (omega arith) (omega arith) refl)
     (λ _. fits 2 (omega arith) (omega arith) refl) (λ _. fits 4 (omega arith) (omega arith) refl) (λ _. fits 8 (omega arith) (omega arith) refl)
     (λ _. fits 16 (omega arith) (omega arith) refl)
   where
@@ -113,48 +115,33 @@ module _ (word : Word) (depth f : ℕ) (p : Plane) (s : List ℕ) (q : Plane) (r
       let t = (by_sides (or_none _ _ e).0).1 in
       record { factor_value = t.0; s_value = t.1.0; reduced_value = t.1.1.0; q_value = t.1.1.1 }
 
-  -- where the refusal w of the depth was given: one of the sides is the reduction's ..
-  module _ (w : ℕ) (d : w ≡ word_fault word depth) where
-    by_word : (n : ℕ) → n ≡ sides_by w f p (length s) q (length r) → n ≡ sides_fault word depth f p (length s) q (length r)
-    unfolding sides_fault
-    by_word n e = e ∙ ap (λ (i : ℕ). sides_by i f p (length s) q (length r)) d
-
-    pub sides_refused : (n : ℕ) → n ≡ sides_by w f p (length s) q (length r) → (n ≡ 0 → ⊥) → n ≡ reduce_fault word depth f p s q r
-    unfolding reduce_fault
-    sides_refused n e h = or_given n _ _ (by_word n e) h
-
-    -- .. and where there is none, the samples decide
-    pub samples_decide : 0 ≡ sides_by w f p (length s) q (length r) → (n : ℕ) → n ≡ sample_fault word depth p s → n ≡ reduce_fault word depth f p s q r
-    unfolding reduce_fault
-    samples_decide none n e =
-        let t = by_sides (sym (by_word 0 none)) in
-        or_later n _ _ (by_word 0 none) (sample_fault_is word depth p s t.0 t.1.1.0 n e)
-
--- with bytes the sides do
-pub sides_decide : (depth f : ℕ) (p : Plane) (s : List ℕ) (q : Plane) (r : List ℕ) → ((i : ℕ) → get_or s i 0 ≤ byte_most)
-    → (w : ℕ) → w ≡ word_fault byte depth → (n : ℕ) → n ≡ sides_by w f p (length s) q (length r) → n ≡ reduce_fault byte depth f p s q r
-unfolding reduce_fault
-sides_decide depth f p s q r l w d n e = go (eqb n 0) (eqb-true n 0) (eqb-false n 0)
-  where
-    sides : n ≡ sides_fault byte depth f p (length s) q (length r)
-    sides = by_word byte depth f p s q r w d n e
-
-    go : (t : Bool) → (t ≡ true → n ≡ 0) → (t ≡ false → n ≡ 0 → ⊥) → n ≡ sides_fault byte depth f p (length s) q (length r) or_else refusal 16 (too_large depth p s)
-    go true is isn't =
-        let none = sym (is refl) ∙ sides in
-        let t = by_sides byte depth f p s q r (sym none) in
-        or_later n _ _ none (rw (bytes_pass depth p s (suited byte depth t.0) l) (is refl))
-    go false is isn't = or_given n _ _ sides (isn't refl)
+  -- .. where the sides are not refused, the samples decide
+  pub samples_decide : 0 ≡ sides_fault word depth f p (length s) q (length r) → (n : ℕ) → n ≡ sample_fault word depth p s → n ≡ reduce_fault word depth f p s q r
+  unfolding reduce_fault
+  samples_decide none n e =
+      let t = by_sides (sym none) in
+      or_later n _ _ none (sample_fault_is word depth p s t.0 t.1.1.0 n e)
 
 -- ---- sums of squares of 32 samples at most on each side: 32 bits hold them, of either word
+
+-- a row that is lent as a part
+module _ {A : Type 0} {value : A → ℕ} {values : List A → List ℕ} (each : (s : List A) → values s ≡ map value s) (s : List A) where
+  pub lent_row : (start stride n j : ℕ) → start + j * stride + n ≤ length s → (t : List A) → t ≡ take (start + j * stride + n - (start + j * stride)) (drop (start + j * stride) s)
+      → sum_below (length t) (λ (i : ℕ). get_or (values t) i 0) ≡ row_from n (values s) start stride j
+  lent_row start stride n j h t e =
+      let at = start + j * stride in
+      let long : length t ≡ n = ap length e ∙ length-take-le (at + n - at) (drop at s) (omega (arith, length-drop at s)) ∙ omega arith in
+      let part : values t ≡ take (at + n - at) (drop at (values s)) = ap values e ∙ values_take each (at + n - at) (drop at s) ∙ ap (take (at + n - at)) (values_drop each at s) in
+      rw (long, part)
+      (sum_ext n _ _ (λ i i<. get_or-take (at + n - at) (drop at (values s)) i 0 (omega arith) ∙ get_or-drop at (values s) i 0))
 
 module _ (k n : ℕ) (s : List ℕ) (l : (i : ℕ) → get_or s i 0 ≤ k) (word : k ≤ word_most) (few : n ≤ 32) where
   row_room : n * k ≤ 32 * word_most
   row_room = mul-le-mul few word
 
-  -- a turn of the sum of a row, and of a square
-  pub row_turn : (at i sum : ℕ) → i < n → sum ≡ sum_below i (λ (m : ℕ). get_or s (at + m) 0) → NextSum (2 ^ 32) i sum (get_or s (at + i) 0) (λ (m : ℕ). get_or s (at + m) 0)
-  row_turn at i sum h e = row_next k n s l (2 ^ 32) (λ (m : ℕ). at + m) (omega (arith, row_room)) i sum (get_or s (at + i) 0) h e refl
+  -- a turn of the sum of a row, which is the whole list, and of a square
+  pub row_turn : (i sum part : ℕ) → i < n → sum ≡ sum_below i (λ (m : ℕ). get_or s m 0) → part ≡ get_or s i 0 → NextSum (2 ^ 32) i sum part (λ (m : ℕ). get_or s m 0)
+  row_turn = row_next k n s l (2 ^ 32) (λ (m : ℕ). m) (omega (arith, row_room))
 
   pub square_turn : (start stride j sum part : ℕ) → j < n → sum ≡ sum_below j (row_from n s start stride) → part ≡ row_from n s start stride j
       → NextSum (2 ^ 32) j sum part (row_from n s start stride)

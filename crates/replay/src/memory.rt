@@ -1,7 +1,8 @@
 // The memory that the list edits: one word for each place that is given or lent. What is lent is filled from the memory before
 // the call, and compared with what is due after it.
-use crate::desk;
-use octets::float;
+use crate::parts::{part, part_mut};
+use crate::view::View;
+use crate::word::Word;
 
 // Where each kind begins, and the end. The answer that is due and the numbers that are given come first.
 pub const STATE: usize = 16;
@@ -30,184 +31,103 @@ pub const HELD: usize = 18304;
 
 pub const END: usize = 18816;
 
-// A negative word is 0 less its size.
-const NEGATIVE: u64 = 9223372036854775808;
+const BOTH: usize = 2 * END;
 
-fn of_sample(x: u8) -> u64 {
-    x as u64
+// Before the call, or as it should be after it.
+#[derive(Clone, Copy)]
+pub enum Side {
+    Given,
+    Due,
 }
 
-fn of_quarter(x: u16) -> u64 {
-    x as u64
-}
-
-fn of_cost(x: u32) -> u64 {
-    x as u64
-}
-
-fn of_entry(x: i32) -> i64 {
-    x as i64
-}
-
-// A word as a signed number, and as an entry: what is negative is small.
-pub fn signed(w: u64) -> i64 {
-    if w < NEGATIVE {
-        return w as i64;
-    }
-    below(desk::low(std::num::wrapping_sub_u64(0, w)))
-}
-
-fn of_word(w: u64) -> i32 {
-    if w < NEGATIVE {
-        return (w % 2147483648) as i32;
-    }
-    below_entry(std::num::wrapping_sub_u64(0, w))
-}
-
-// What is below 0 by so much.
-fn below(size: u32) -> i64 {
-    0 - (size as i64)
-}
-
-fn below_entry(size: u64) -> i32 {
-    0 - ((size % 2147483648) as i32)
-}
-
-// A place is given its word, or compared with the word that is due. Whether it holds that.
-fn number(list: &mut [u64], i: usize, w: u64, is_given: bool) -> bool {
-    if list.len() <= i {
-        return false;
-    }
-    if is_given {
-        list[i] = w;
-        return true;
-    }
-    list[i] == w
-}
-
-fn sample(list: &mut [u8], i: usize, w: u64, is_given: bool) -> bool {
-    if list.len() <= i {
-        return false;
-    }
-    if is_given {
-        list[i] = (w % 256) as u8;
-        return true;
-    }
-    of_sample(list[i]) == w
-}
-
-fn quarter(list: &mut [u16], i: usize, w: u64, is_given: bool) -> bool {
-    if list.len() <= i {
-        return false;
-    }
-    if is_given {
-        list[i] = (w % 65536) as u16;
-        return true;
-    }
-    of_quarter(list[i]) == w
-}
-
-fn cost(list: &mut [u32], i: usize, w: u64, is_given: bool) -> bool {
-    if list.len() <= i {
-        return false;
-    }
-    if is_given {
-        list[i] = desk::low(w);
-        return true;
-    }
-    of_cost(list[i]) == w
-}
-
-fn entry(list: &mut [i32], i: usize, w: u64, is_given: bool) -> bool {
-    if list.len() <= i {
-        return false;
-    }
-    if is_given {
-        list[i] = of_word(w);
-        return true;
-    }
-    of_entry(list[i]) == signed(w)
-}
-
-fn real(list: &mut [f64], i: usize, w: u64, is_given: bool) -> bool {
-    if list.len() <= i {
-        return false;
-    }
-    if is_given {
-        list[i] = float::of_bits(w);
-        return true;
-    }
-    float::same(list[i], w)
-}
-
-// What is due so far is given from here on.
-pub fn settle(desk: &mut [u64], end: usize) {
-    for i in 0..end {
-        let w = desk::stands(desk, 0, i, false);
-        desk::put_at(desk, desk::GIVEN, i, w);
+impl Side {
+    fn start(self) -> usize {
+        match self {
+            Side::Given => 0,
+            Side::Due => END,
+        }
     }
 }
 
-// A list is filled from a place of the memory on, or compared.
-pub fn numbers(desk: &[u64], list: &mut [u64], at: usize, is_given: bool) -> bool {
-    let mut is_same = true;
-    for i in 0..list.len() {
-        is_same = is_same & number(list, i, desk::stands(desk, at, i, is_given), is_given);
+// What is given, and behind it what is due: what a line writes past the end of the one goes on in the other.
+#[derive(Drop)]
+pub struct Memory {
+    words: [u64; BOTH],
+}
+
+impl Memory {
+    pub fn new() -> Memory {
+        Memory { words: [0; BOTH] }
     }
-    is_same
-}
 
-pub fn samples(desk: &[u64], list: &mut [u8], at: usize, is_given: bool) -> bool {
-    let mut is_same = true;
-    for i in 0..list.len() {
-        is_same = is_same & sample(list, i, desk::stands(desk, at, i, is_given), is_given);
+    // The word at a place. Places are counted around.
+    pub fn get(&self, side: Side, place: usize) -> Option<u64> {
+        self.words.get(side.start().wrapping_add(place)).copied()
     }
-    is_same
-}
 
-// Samples of 16 bits.
-pub fn quarters(desk: &[u64], list: &mut [u16], at: usize, is_given: bool) -> bool {
-    let mut is_same = true;
-    for i in 0..list.len() {
-        is_same = is_same & quarter(list, i, desk::stands(desk, at, i, is_given), is_given);
+    pub fn put(&mut self, side: Side, place: usize, w: u64) {
+        if let Some(x) = self.words.get_mut(side.start().wrapping_add(place)) {
+            *x = w;
+        }
     }
-    is_same
-}
 
-pub fn costs(desk: &[u64], list: &mut [u32], at: usize, is_given: bool) -> bool {
-    let mut is_same = true;
-    for i in 0..list.len() {
-        is_same = is_same & cost(list, i, desk::stands(desk, at, i, is_given), is_given);
+    // What is due so far is given from here on.
+    pub fn settle(&mut self, end: usize) {
+        for place in 0..end {
+            let w = self.get(Side::Due, place).unwrap_or(0);
+            self.put(Side::Given, place, w);
+        }
     }
-    is_same
-}
 
-pub fn entries(desk: &[u64], list: &mut [i32], at: usize, is_given: bool) -> bool {
-    let mut is_same = true;
-    for i in 0..list.len() {
-        is_same = is_same & entry(list, i, desk::stands(desk, at, i, is_given), is_given);
+    // A number that is given.
+    pub fn number<T: Word>(&self, place: usize) -> T {
+        T::of(self.get(Side::Given, place).unwrap_or(0))
     }
-    is_same
-}
 
-pub fn reals(desk: &[u64], list: &mut [f64], at: usize, is_given: bool) -> bool {
-    let mut is_same = true;
-    for i in 0..list.len() {
-        is_same = is_same & real(list, i, desk::stands(desk, at, i, is_given), is_given);
+    // Samples, whose shape is given from a place on, behind their number.
+    fn view<T>(&self, place: usize, samples: T) -> View<T> {
+        View {
+            samples,
+            width: self.number(place.wrapping_add(1)),
+            height: self.number(place.wrapping_add(2)),
+            stride: self.number(place.wrapping_add(3)),
+            origin: self.number(place.wrapping_add(4)),
+        }
     }
-    is_same
-}
 
-// A quotient that is lent has a place of its own.
-pub fn quotient(desk: &[u64]) -> f64 {
-    float::of_bits(desk::stands(desk, QUOTIENT, 0, true))
-}
+    // A plane of a list's first samples.
+    pub fn plane<'a, S>(&self, place: usize, list: &'a [S]) -> View<&'a [S]> {
+        self.view(place, part(list, self.number(place)))
+    }
 
-// Whether the answer is as it should be, and where a quotient was lent, that too.
-pub fn is_due(desk: &[u64], answer: i64) -> bool {
-    answer == signed(desk::due(desk))
-}
+    pub fn plane_mut<'a, S>(&self, place: usize, list: &'a mut [S]) -> View<&'a mut [S]> {
+        self.view(place, part_mut(list, self.number(place)))
+    }
 
-pub fn is_result(desk: &[u64], answer: i64, quotient: f64) -> bool {
-    is_due(desk, answer) & float::same(quotient, desk::stands(desk, QUOTIENT, 0, false))
+    // Whether what is due at a place is this.
+    pub fn holds<T: Word>(&self, place: usize, x: T) -> bool {
+        self.get(Side::Due, place).is_some_and(|w| x.is(w))
+    }
+
+    // Whether the answer is as it should be.
+    pub fn is_due(&self, answer: i64) -> bool {
+        answer == self.number(0)
+    }
+
+    // A list is filled from a place on, or compared. Whether it holds what it should.
+    pub fn pass<T: Word>(&self, side: Side, list: &mut [T], place: usize) -> bool {
+        let words = self
+            .words
+            .get(side.start().saturating_add(place)..)
+            .unwrap_or_default();
+        match side {
+            Side::Given => {
+                for (x, w) in list.iter_mut().zip(words) {
+                    *x = T::of(*w);
+                }
+                true
+            }
+            Side::Due => list.iter().zip(words).all(|(x, w)| x.is(*w)),
+        }
+    }
 }

@@ -1,38 +1,30 @@
 -- The SATD's numbers over the largest sample k: no difference is out of the transform's range where k is at most 65,535, and the SATD is at
 -- most 512 times k. So a u32 holds it, and the sum before the division, for samples of 8 and of 16 bits. Assumes nothing.
-use mathlib.Core.Path.{◌≡◌, refl, ap, ◌∙◌}
+use mathlib.Core.Path.{◌≡◌, refl, sym, ap, ◌∙◌}
 use mathlib.Core.List.{List}
 use Prim.Native.Nat.{ℕ, ◌+◌, ◌*◌, ◌/◌, ◌≤◌, ◌<◌}
 use native.Mathlib.Omega.{arith}
-use borrow.Author.Tests.{eq-eqb, ne_eqb}
+use borrow.Author.Tests.{eq-eqb}
 use lib.IntN.{ℤ, pos, ◌-ℤ◌, nat_abs}
 use Rattle.std.specs.Prelude.{map}
 use lib.ListN.{length, get_or, set, length-set}
-use Rattle.answer.specs.Answer.{gives, refused}
-use Rattle.answer.proofs.Laws.{or_given, or_later, answer_given, answer_refused}
+use Rattle.answer.specs.Answer.{gives}
+use Rattle.answer.proofs.Laws.{or_later, answer_given}
 use Rattle.sums.proofs.TableLaws.{length_table, is_table, one_filled}
 use Rattle.sums.proofs.SumLaws.{sum_most}
 use Rattle.sums.proofs.SignedLaws.{abs_difference}
 use Rattle.sums.proofs.SampleLaws.{value_read}
 use Rattle.plane.specs.Blocks.{block_side}
-use Rattle.hadamard.specs.Transform.{entry_most, transformed, after_transform}
+use Rattle.hadamard.specs.Transform.{entry_most, transform_fault, transformed, after_transform}
 use Rattle.hadamard.specs.Steps.{AllWithin}
 use Rattle.hadamard.proofs.Square.{length_transformed, transformed_within}
 use Rattle.hadamard.proofs.Range.{table_within, none_beyond, within_more, accepted}
 use Rattle.satd.specs.Satd.{block_size, difference, differences, abs_sum, satd_value, satd_of}
 
--- a block of another length is refused, and two whole blocks have a SATD
-module _ (first second : List ℕ) where
-  pub first_refused : (length first ≡ block_size → ⊥) → refused 2 ≡ satd_of first second
-  first_refused h = answer_refused 2 _ _ (or_given 2 _ _ (rw (ne_eqb (length first) block_size h)) (λ e. omega arith)) (λ e. omega arith)
-
-  pub second_refused : length first ≡ block_size → (length second ≡ block_size → ⊥) → refused 2 ≡ satd_of first second
-  second_refused e h =
-      answer_refused 2 _ _ (or_later 2 _ _ (rw (eq-eqb (length first) block_size e)) (rw (ne_eqb (length second) block_size h))) (λ e. omega arith)
-
-  pub satd_given : length first ≡ block_size → length second ≡ block_size → gives (satd_value first second) ≡ satd_of first second
-  satd_given d e =
-      answer_given _ _ _ (or_later 0 _ _ (rw (eq-eqb (length first) block_size d)) (rw (eq-eqb (length second) block_size e))) refl
+-- two whole blocks have a SATD
+pub satd_given : (first second : List ℕ) → length first ≡ block_size → length second ≡ block_size → gives (satd_value first second) ≡ satd_of first second
+satd_given first second d e =
+    answer_given _ _ _ (or_later 0 _ _ (rw (eq-eqb (length first) block_size d)) (rw (eq-eqb (length second) block_size e))) refl
 
 -- ---- the loop of the subtraction: the first i differences stand in their places
 pub record Subtracted (first second : List ℕ) (i : ℕ) (l : List ℤ) : Type 0 where
@@ -68,10 +60,9 @@ pub record Left (first second : List ℕ) (x : List ℤ) : Type 0 where
   pub sum_most : abs_sum x ≤ block_size * (block_side * (block_side * entry_most))
 
 -- an eighth of the sum is the SATD
-pub left_satd : {first second : List ℕ} {x : List ℤ} → Left first second x → (n : ℕ) → n ≡ abs_sum x → length first ≡ block_size → length second ≡ block_size
-    → gives ((n + 4) / 8) ≡ satd_of first second
+pub left_satd : {first second : List ℕ} {x : List ℤ} → Left first second x → (n : ℕ) → n ≡ abs_sum x → (n + 4) / 8 ≡ satd_value first second
 unfolding satd_value
-left_satd {first} {second} p n e a b = ap (λ (m : ℕ). gives ((m + 4) / 8)) (e ∙ ap abs_sum p.is) ∙ satd_given first second a b
+left_satd {first} {second} p n e = ap (λ (m : ℕ). (m + 4) / 8) (e ∙ ap abs_sum p.is)
 
 module _ (k : ℕ) (first second : List ℕ) (p : (i : ℕ) → get_or first i 0 ≤ k) (q : (i : ℕ) → get_or second i 0 ≤ k) where
   differences_within : AllWithin k (differences first second)
@@ -88,12 +79,19 @@ module _ (k : ℕ) (first second : List ℕ) (p : (i : ℕ) → get_or first i 0
   unfolding satd_value
   satd_most = omega (arith, sum_at_most)
 
-  -- the transform does not refuse the differences, which are those of a list d
+  -- the differences, as a list d: the transform does not refuse them
+  differences_fine : k ≤ entry_most → (0 ≡ transform_fault block_side (differences first second)) × (transformed block_side (differences first second) ≡ after_transform block_side (differences first second))
+  differences_fine h =
+      accepted block_side (differences first second) (length_table block_size (difference first second))
+      (none_beyond (differences first second) (within_more k entry_most (differences first second) h differences_within))
+
+  pub unrefused : k ≤ entry_most → (d : List ℤ) → d ≡ differences first second → transform_fault block_side d ≡ 0
+  unrefused h d e = rw e (sym (differences_fine h).0)
+
+  -- and what it leaves of them
   pub left : k ≤ entry_most → (d x : List ℤ) → d ≡ differences first second → x ≡ after_transform block_side d → Left first second x
   left h d x e f =
-      let in-range = none_beyond (differences first second) (within_more k entry_most (differences first second) h differences_within) in
-      let changed = (accepted block_side (differences first second) (length_table block_size (difference first second)) in-range).1 in
-      rw (f, e, ← changed)
+      rw (f, e, ← (differences_fine h).1)
       (record {
         is = refl;
         size = length_transformed block_side (differences first second);

@@ -28,7 +28,7 @@ unfoldable pub satd_value : List ℕ → List ℕ → ℕ
 satd_value first second = (abs_sum (transformed block_side (differences first second)) + 4) / 8
 
 -- 2: a block hasn't its 64 samples
-abbrev block_fault : List ℕ → ℕ
+abbrev pub block_fault : List ℕ → ℕ
 block_fault l = refusal 2 (not (eqb (length l) block_size))
 
 abbrev pub satd_of : List ℕ → List ℕ → Answer ℕ

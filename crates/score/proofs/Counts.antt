@@ -1,14 +1,18 @@
--- A search and a count, one element at a time from a place on: what is left to look at after i elements; and a search that finds
--- nothing.
+-- A search, one element at a time from a place on: what is left to look at after i elements; the library's search and count; and a
+-- search that finds nothing.
 -- Assumes nothing.
-use mathlib.Core.Path.{◌≡◌, refl}
-use mathlib.Core.Bool.{Bool, false, ◌||◌, cond}
+use mathlib.Core.Path.{◌≡◌, refl, sym, ap, ◌∙◌}
+use mathlib.Core.Bool.{Bool, true, false, ◌||◌, cond}
 use mathlib.Core.List.{List, [], ◌∷◌}
 use Prim.Native.Nat.{ℕ, zero, suc, ◌+◌, ◌≤◌, ◌<◌}
 use native.Mathlib.Numerals.{add-one}
 use native.Mathlib.Omega.{arith}
 use lib.ListN.{length, take, drop, get_or, drop_of_length-le}
 use lib.Seq.{drop-cons}
+use native.Mathlib.Nat.{zero-add}
+use Rattle.std.specs.List.{list_any, filter}
+use Rattle.std.proofs.lemmas.List.Sums.{length-filter}
+use Rattle.std.proofs.lemmas.List.Recursion.{is_count_by}
 use Rattle.answer.proofs.Laws.{or_no}
 use Rattle.score.specs.Search.{any_of, count_of}
 
@@ -17,18 +21,24 @@ module _ {A : Type 0} (test : A → Bool) (l : List A) (i : ℕ) where
   unfolding any_of
   any_end h = rw (drop_of_length-le l h)
 
-  pub count_end : length l ≤ i → count_of test (drop i l) ≡ 0
-  unfolding count_of
-  count_end h = rw (drop_of_length-le l h)
-
   module _ (z : A) (h : i < length l) where
     pub any_more : any_of test (drop i l) ≡ test (get_or l i z) || any_of test (drop (i + 1) l)
     unfolding any_of
     any_more = rw (add-one, drop-cons l i z h)
 
-    pub count_more : count_of test (drop i l) ≡ cond (test (get_or l i z)) 1 0 + count_of test (drop (i + 1) l)
-    unfolding count_of
-    count_more = rw (add-one, drop-cons l i z h)
+-- they are what the library's `any`, and its `count` behind a `filter`, answer
+pub any_is : {A : Type 0} (test : A → Bool) (l : List A) → list_any test l ≡ any_of test l
+unfolding any_of
+any_is test [] = refl
+any_is test (x ∷ l) = ap (λ (b : Bool). test x || b) (any_is test l)
+
+pub count_is : {A : Type 0} (test : A → Bool) (l : List A) → length (filter test l) ≡ count_of test l
+unfolding count_of
+count_is test l = length-filter test l ∙ sym (is_count_by (count_of test) test refl (λ x xs. by (test x) (count_of test xs)) l)
+  where
+    by : (b : Bool) (n : ℕ) → cond b 1 0 + n ≡ cond b (1 + n) n
+    by true n = refl
+    by false n = zero-add n
 
 -- a search that finds nothing, of an element and the rest
 module _ {A : Type 0} (test : A → Bool) where

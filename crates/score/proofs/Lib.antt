@@ -5,6 +5,7 @@ pub mod Counts
 pub mod Walk
 pub mod Update
 pub mod PairLaws
+pub mod Neighbours
 pub mod Order
 pub mod Scored
 pub mod Floats

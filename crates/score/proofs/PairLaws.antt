@@ -3,7 +3,7 @@
 use mathlib.Core.Path.{◌≡◌, refl, ap}
 use mathlib.Core.Bool.{Bool, true, false}
 use mathlib.Core.List.{List, [], ◌∷◌}
-use Prim.Native.Nat.{ℕ, zero, suc, ◌-◌, ◌<◌}
+use Prim.Native.Nat.{ℕ, zero, suc, ◌<◌}
 use native.Mathlib.Omega.{arith}
 use borrow.Author.Tests.{eq-eqb, ne_eqb}
 use lib.ListN.{length, take, get_or}
@@ -45,27 +45,6 @@ numbers_scored true level o pair m l = refl
 numbers_scored false level o pair m l = ap (λ (ns : List ℕ). pair ∷ ns) (numbers_updated true o m.inter l)
 
 -- ---- the neighbours
-
-from_long : (x : ℕ) (ns : List ℕ) → length (neighbours_from x ns) ≡ length ns
-from_long x [] = refl
-from_long x (y ∷ ns) = ap suc (from_long y ns)
-
-pub neighbours_long : (ns : List ℕ) → length (neighbours ns) ≡ length ns - 1
-neighbours_long [] = refl
-neighbours_long (x ∷ ns) = omega (arith, from_long x ns)
-
--- what stands for two that are not there
-abbrev pub no_two : ℕ × ℕ
-no_two = (0, 0)
-
-from_at : (x : ℕ) (ns : List ℕ) (i : ℕ) → i < length ns → get_or (neighbours_from x ns) i no_two ≡ (get_or (x ∷ ns) i 0, get_or ns i 0)
-from_at x [] i h = absurd (omega arith)
-from_at x (y ∷ ns) zero h = refl
-from_at x (y ∷ ns) (suc i) h = from_at y ns i (omega arith)
-
-pub neighbours_at : (ns : List ℕ) (i : ℕ) → suc i < length ns → get_or (neighbours ns) i no_two ≡ (get_or ns i 0, get_or ns (suc i) 0)
-neighbours_at [] i h = absurd (omega arith)
-neighbours_at (x ∷ ns) i h = from_at x ns i (omega arith)
 
 from_taken : (x : ℕ) (k : ℕ) (ns : List ℕ) → neighbours_from x (take k ns) ≡ take k (neighbours_from x ns)
 from_taken x zero ns = refl

@@ -2,14 +2,14 @@
 -- Assumes nothing.
 use mathlib.Core.Path.{◌≡◌, refl, ap}
 use mathlib.Core.Bool.{Bool, true, false}
-use mathlib.Core.List.{List, [], ◌∷◌}
+use mathlib.Core.List.{List, [], ◌∷◌, ◌++◌}
 use Prim.Native.Nat.{ℕ, zero, suc, ◌+◌, ◌<◌, min}
-use native.Mathlib.Nat.{zero-min, suc-min-suc}
+use native.Mathlib.Nat.{zero-min, min-zero, suc-min-suc}
 use native.Mathlib.Numerals.{add-one}
 use native.Mathlib.Omega.{arith}
 use lib.Dec.{eqb}
 use borrow.Author.Tests.{ne_eqb}
-use lib.ListN.{length, take, get_or, set}
+use lib.ListN.{length, take, drop, get_or, set}
 use lib.Ieee.{Float}
 use Rattle.score.specs.declared.ScenecutResult.{ScenecutResult}
 use Rattle.score.specs.Scores.{with_forward, updated_from, updated_of}
@@ -45,13 +45,21 @@ update_long new b zero l = refl
 update_long new b (suc n) [] = refl
 update_long new b (suc n) (e ∷ es) = ap suc (update_long new false n es)
 
--- the first n of a list, updated, are the first n of the list updated within them
-pub update_take : (new : Float) (b : Bool) (o n : ℕ) (l : List ScenecutResult) → take n (updated_from b (min o n) new l) ≡ updated_from b o new (take n l)
-update_take new b o zero l = empty o
-  where
-    empty : (o : ℕ) → [] ≡ updated_from b o new []
-    empty zero = refl
-    empty (suc o) = refl
-update_take new b zero (suc n) l = rw zero-min
-update_take new b (suc o) (suc n) [] = rw suc-min-suc
-update_take new b (suc o) (suc n) (e ∷ es) = rw suc-min-suc (ap (λ (l : List ScenecutResult). with_forward b new e ∷ l) (update_take new false o n es))
+-- the first n of a list, updated, are the first n of the list updated
+pub update_take : (new : Float) (b : Bool) (o n : ℕ) (l : List ScenecutResult) → take n (updated_from b o new l) ≡ updated_from b o new (take n l)
+update_take new b zero n l = refl
+update_take new b (suc o) zero l = refl
+update_take new b (suc o) (suc n) [] = refl
+update_take new b (suc o) (suc n) (e ∷ es) = ap (λ (l : List ScenecutResult). with_forward b new e ∷ l) (update_take new false o n es)
+
+-- a list whose first n are updated, in front of the rest
+pub update_front : (new : Float) (b : Bool) (n : ℕ) (l : List ScenecutResult) → updated_from b (length (take n l)) new (take n l) ++ drop n l ≡ updated_from b n new l
+update_front new b zero l = refl
+update_front new b (suc n) [] = refl
+update_front new b (suc n) (e ∷ es) = ap (λ (l : List ScenecutResult). with_forward b new e ∷ l) (update_front new false n es)
+
+-- all of them, if there are fewer
+pub update_min : (new : Float) (b : Bool) (o : ℕ) (l : List ScenecutResult) → updated_from b (min o (length l)) new l ≡ updated_from b o new l
+update_min new b zero l = rw zero-min
+update_min new b (suc o) [] = rw min-zero
+update_min new b (suc o) (e ∷ es) = rw suc-min-suc (ap (λ (l : List ScenecutResult). with_forward b new e ∷ l) (update_min new false o es))

@@ -1,6 +1,6 @@
 -- The first elements of the first elements of a list.
 -- Assumes nothing.
-use mathlib.Core.Path.{◌≡◌, refl, sym, ◌∙◌, ap}
+use mathlib.Core.Path.{◌≡◌, refl}
 use mathlib.Core.Bool.{Bool, true, false}
 use mathlib.Core.List.{List}
 use Prim.Native.Nat.{ℕ, ◌≤◌, ◌<◌, min}
@@ -8,7 +8,8 @@ use native.Mathlib.Omega.{arith}
 use borrow.Author.Tests.{leb-true, leb-false}
 use lib.Dec.{leb}
 use lib.ListN.{length, take, length-take}
-use lib.Seq.{take-take, take_all, take-length}
+use lib.Seq.{take-take, take_all}
+use Rattle.std.proofs.lemmas.List as all
 
 module _ {A : Type 0} where
   pub take_min : (m n : ℕ) (l : List A) → take m (take n l) ≡ take (min m n) l
@@ -23,4 +24,4 @@ module _ {A : Type 0} where
           let k : min m n ≡ n = omega arith in rw k (take_all m (take n l) (omega (arith, length-take n l)))
 
   pub take_within : (n k : ℕ) (l : List A) → length l ≡ k → take (min n k) l ≡ take n l
-  take_within n k l e = sym (take_min n k l) ∙ ap (λ (x : List A). take n x) (rw (← e) (take-length l))
+  take_within n k l e = rw (← e) (all.take_min n l)

@@ -4,4 +4,3 @@ pub mod Scores
 pub mod Cut
 pub mod Costs
 pub mod Numbers
-pub mod Needs

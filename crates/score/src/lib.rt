@@ -11,9 +11,6 @@ pub mod decision;
 pub mod numbers;
 pub mod scoring;
 
-// The largest finite f64.
-pub const F64_MAX: f64 = 1.7976931348623157e308;
-
 // The scores of a pair of frames, and which pair that is.
 #[derive(Clone, Copy)]
 pub struct ScenecutResult {
@@ -33,7 +30,8 @@ pub struct Measure {
     pub threshold: f64,
 }
 
-// The scores that are kept, the newest in front. Slots past the count are no part of it.
+// The scores that are kept, the newest in front. Slots past the count are no part of it. (An array with a count beside it, since there is no
+// heap, and a state that C lends may hold any count: refusal 11 answers it.)
 #[derive(Clone, Copy)]
 pub struct ScoreDeque {
     pub entries: [ScenecutResult; Settings::ROOM],
@@ -74,57 +72,42 @@ impl ScoreDeque {
         }
     }
 
-    // The same entries, with a count that is theirs.
-    fn within(self) -> ScoreDeque
-        ensures { (held result ≡ holding (content self)) × (result.count ≤ room) }
+    // The entries, front first. A count above the room is read as the room: that of a state which 11 will refuse may be any number.
+    fn scores(&self) -> &[ScenecutResult]
+        ensures { result.now ≡ content self.now }
     {
-        let count = sums::lesser(self.count, Settings::ROOM);
-        let mut out = self;
-        out.count = count;
-        out
+        &self.entries[..self.count.min(Settings::ROOM)]
     }
 
     // One score more, in front. Where all the room is taken the last entry falls out.
-    fn pushed_front(self, s: ScenecutResult) -> ScoreDeque
-        ensures { held result ≡ holding (take room (s ∷ content self)) }
+    fn push_front(&mut self, s: ScenecutResult)
+        ensures { held self.new ≡ holding (take room (s ∷ content self.old)) }
     {
-        let last = sums::lesser(Settings::ROOM - 1, self.count);
-        let mut out = self;
-        let mut carried = s;
-        let mut i = 0;
-        while i <= last {
-            let next = out.entries[i];
-            out.entries[i] = carried;
-            carried = next;
-            i += 1;
-        }
-        out.count = last + 1;
-        out
+        let kept = self.count.min(Settings::ROOM - 1);
+        self.entries.copy_within(..kept, 1);
+        self.entries[0] = s;
+        self.count = kept + 1;
     }
 
     // Entry i, counted from the front; a score of NaNs, of pair 0, where there is none.
     pub fn entry(self, i: usize) -> ScenecutResult
         ensures { result ≡ get_or (content self) i no_score }
     {
-        let count = sums::lesser(self.count, Settings::ROOM);
-        if i < count {
-            return self.entries[i];
+        match self.scores().get(i) {
+            Some(e) => *e,
+            None => {
+                let nan = f64::NAN;
+                ScenecutResult::new(0, nan, nan, nan, nan, nan)
+            }
         }
-        let nan = 0.0 / 0.0;
-        ScenecutResult::new(0, nan, nan, nan, nan, nan)
     }
 
     // Without the last entry, where there are more than `most`.
-    pub fn trimmed(self, most: usize) -> ScoreDeque
+    pub fn trimmed(mut self, most: usize) -> ScoreDeque
         ensures { held result ≡ holding (trimmed_to most (content self)) }
     {
-        let count = sums::lesser(self.count, Settings::ROOM);
-        let mut out = self;
-        if most < count {
-            out.count = count - 1;
-            return out;
-        }
-        out.count = count;
-        out
+        let count = self.scores().len();
+        self.count = if most < count { count - 1 } else { count };
+        self
     }
 }

@@ -1,47 +1,37 @@
 // `run_comparison` of analyze.rs: a pair is scored, and its score is put in front of the deque.
-ghost use Rattle.std.specs.Prelude.{◌≡◌, ◌≤◌, take};
+ghost use Rattle.std.specs.Prelude.{◌≡◌, take};
 ghost use Rattle.settings.specs.Settings.{room};
 ghost use Rattle.score.specs.Deque.{content, held, holding};
 ghost use Rattle.score.specs.Scores.{fast_score, standard_score, backward_of, back_of, clamp_of, forward_of, with_forward, updated_of, score_of};
 
-use super::{F64_MAX, Measure, ScenecutResult, ScoreDeque};
+use super::{Measure, ScenecutResult, ScoreDeque};
 
 // The backward cost of a pair whose inter cost is `own`: a walk over the first o entries, front first.
-fn backward_cost(d: ScoreDeque, o: usize, own: f64) -> f64
-    requires { d.count ≤ room }
-    ensures { result ≡ backward_of o own (content d) }
+fn backward_cost(scores: &[ScenecutResult], o: usize, own: f64) -> f64
+    ensures { result ≡ backward_of o own scores.now }
 {
-    let n = sums::lesser(o, d.count);
-    let mut least = F64_MAX;
-    let mut i = 0;
-    let cost = loop {
-        if n <= i {
-            break least;
-        }
-        let difference = own - d.entries[i].inter_cost;
+    let mut least = f64::MAX;
+    for e in &scores[..o.min(scores.len())] {
+        let difference = own - e.inter_cost;
         if difference < 0.0 {
-            break 0.0;
+            return 0.0;
         }
         if difference < least {
             least = difference;
         }
-        i += 1;
-    };
-    cost
+    }
+    least
 }
 
 // The backward cost, which pair 1 does not have: the first frame of a film is a keyframe anyway.
-fn back_cost(o: usize, pair: u64, own: f64, d: ScoreDeque) -> f64
-    requires { d.count ≤ room }
-    ensures { result ≡ back_of o pair own (content d) }
+fn back_cost(o: usize, pair: u64, own: f64, scores: &[ScenecutResult]) -> f64
+    ensures { result ≡ back_of o pair own scores.now }
 {
-    if o == 0 {
-        return 0.0;
+    if o == 0 || pair == 1 {
+        0.0
+    } else {
+        backward_cost(scores, o, own)
     }
-    if pair == 1 {
-        return 0.0;
-    }
-    backward_cost(d, o, own)
 }
 
 fn clamped(x: f64) -> f64
@@ -55,13 +45,11 @@ fn forward_cost(first: bool, new: f64, own: f64, forward: f64) -> f64
     ensures { result ≡ forward_of first new own forward }
 {
     let difference = own - new;
-    if first {
-        return clamped(difference);
-    }
-    if difference < forward {
-        return clamped(difference);
-    }
-    clamped(forward)
+    clamped(if first || difference < forward {
+        difference
+    } else {
+        forward
+    })
 }
 
 fn with_forward(first: bool, new: f64, e: ScenecutResult) -> ScenecutResult
@@ -78,19 +66,15 @@ fn with_forward(first: bool, new: f64, e: ScenecutResult) -> ScenecutResult
     )
 }
 
-// The deque with the forward costs of its first o entries updated.
-fn updated(d: ScoreDeque, o: usize, new: f64) -> ScoreDeque
-    requires { d.count ≤ room }
-    ensures { content result ≡ updated_of o new (content d) }
+// The forward costs of the first o entries are updated. Slots past the count, where o reaches these, are no part of the deque.
+fn update(entries: &mut [ScenecutResult], o: usize, new: f64)
+    ensures { entries.new ≡ updated_of o new entries.old }
 {
-    let n = sums::lesser(o, d.count);
-    let mut out = d;
-    for i in 0..n {
-        let e = out.entries[i];
-        let f = with_forward(i == 0, new, e);
-        out.entries[i] = f;
+    let n = o.min(entries.len());
+    let first = &mut entries[..n];
+    for (i, e) in first.iter_mut().enumerate() {
+        *e = with_forward(i == 0, new, *e);
     }
-    out
 }
 
 fn fast_score(level: f64, pair: u64, delta: f64) -> ScenecutResult
@@ -116,13 +100,13 @@ pub fn run_comparison(
 ) -> ScoreDeque
     ensures { held result ≡ holding (take room (score_of fast level o pair m (content d))) }
 {
-    let e = d.within();
+    let mut out = d;
     if fast {
-        let s = fast_score(level, pair, m.inter);
-        return e.pushed_front(s);
+        out.push_front(fast_score(level, pair, m.inter));
+    } else {
+        let back = back_cost(o, pair, m.inter, out.scores());
+        update(&mut out.entries, o, m.inter);
+        out.push_front(standard_score(pair, m, back));
     }
-    let back = back_cost(o, pair, m.inter, e);
-    let u = updated(e, o, m.inter);
-    let s = standard_score(pair, m, back);
-    u.pushed_front(s)
+    out
 }

@@ -1,4 +1,5 @@
 pub mod Each
+pub mod Chunks
 pub mod RecordLaws
 pub mod Places
 pub mod LogLaws

@@ -7,12 +7,14 @@ use Prim.Native.Nat.{ℕ, zero, suc, ◌+◌, ◌-◌, ◌*◌, ◌≤◌, ◌<�
 use native.Mathlib.Omega.{arith}
 use borrow.Author.Tests.{leb-true, leb-false}
 use lib.Dec.{leb}
-use lib.ListN.{length, take, drop, get_or, length-drop}
+use lib.ListN.{length, take, drop, get_or, length-take, length-drop}
 use lib.Seq.{take-take, drop-drop, length-take-le}
+use Rattle.std.specs.Simd.{first_chunks}
 use Rattle.octets.specs.Octets.{overwritten}
 use Rattle.octets.proofs.Over.{over_front, over_here, over_length}
 use Rattle.score_log.specs.Records.{record_long, pattern_long, pattern_count, patterns_place, field, number_field, pattern_fields, cut_field, bytes_fault}
 use Rattle.score_log.specs.Log.{whole_records, torn_rest, whole_long, record_in, least_after, record_fault, earliest, log_fault, joined, numbers_of, patterns_of, cuts_of}
+use Rattle.score_log.proofs.Chunks.{chunk_at}
 use Rattle.score_log.proofs.Each.{joined_same, joined_next, joined_place, earliest_same, earliest_next, earliest_none, earliest_each}
 use Rattle.score_log.proofs.Places.{part_front}
 use Rattle.score_log.proofs.RecordLaws.{fault_lower}
@@ -38,6 +40,15 @@ module _ (s t : List ℕ) (n : ℕ) (same : take (n * record_long) s ≡ take (n
 
   pub fields_same : (g : List ℕ → List ℕ) → joined n (λ k. g (record_in s k)) ≡ joined n (λ k. g (record_in t k))
   fields_same g = joined_same n (λ k. g (record_in s k)) (λ k. g (record_in t k)) (λ k l. ap g (record_same k l))
+
+-- the log's chunks are its records
+pub record_at : (log : List ℕ) (records : List (List ℕ)) → records ≡ first_chunks record_long (whole_records log) log → (k : ℕ) → k < whole_records log → get_or records k [] ≡ record_in log k
+unfolding record_in
+record_at log records e k l = ap (λ (rs : List (List ℕ)). get_or rs k []) e ∙ chunk_at record_long (whole_records log) k log [] l
+
+pub record_in_long : (log : List ℕ) (k : ℕ) → k < whole_records log → length (record_in log k) ≡ record_long
+unfolding record_in
+record_in_long log k l = omega (arith, length-take record_long (drop (k * record_long) log), length-drop (k * record_long) log)
 
 -- ---- what the reader gives, by its places: numbers[k], bits[5 * k + j], cuts[k]
 

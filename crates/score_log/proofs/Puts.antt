@@ -1,12 +1,29 @@
 -- What is put behind what was put before stands there with it. Assumes nothing.
-use mathlib.Core.Path.{◌≡◌, ap, ◌∙◌}
-use mathlib.Core.List.{List, [], ◌∷◌, ◌++◌}
+use mathlib.Core.Path.{◌≡◌, sym, ap, ◌∙◌}
+use mathlib.Core.List.{List, [], ◌∷◌, ◌++◌, append_assoc}
 use Prim.Native.Nat.{ℕ, ◌+◌, ◌≤◌, ◌<◌}
+use native.Mathlib.Nat.{zero-add}
 use native.Mathlib.Omega.{arith}
-use lib.ListN.{length, set}
+use lib.ListN.{length, take, drop, set}
+use lib.Seq.{drop-drop}
+use borrow.Rule.Slice.PartMut.{put_mid}
 use Rattle.octets.specs.Octets.{bytes_of, overwritten, with_number}
 use Rattle.octets.proofs.Laws.{with_here}
-use Rattle.octets.proofs.Over.{over_length, over_join, over_one}
+use Rattle.octets.proofs.Over.{over_length, over_join, over_one, over_end}
+
+-- a part of a list, written, is bytes written from its place on
+pub part_put : (at k : ℕ) (bs s : List ℕ) → length bs ≡ k → put_mid at k s bs ≡ overwritten at bs s
+unfolding overwritten
+part_put at k bs s e = rw (e, drop-drop k at s) (sym (append_assoc (take at s) bs (drop (at + k) s)))
+
+-- and so is its front
+pub front_put : (bs s part : List ℕ) → part ≡ bs → part ++ drop (length bs) s ≡ overwritten 0 bs s
+unfolding overwritten
+front_put bs s part e = rw (e, zero-add (length bs))
+
+-- bytes written over as many are all there is
+pub all_put : (bs s : List ℕ) → length bs ≡ length s → overwritten 0 bs s ≡ bs
+all_put bs s e = over_end 0 bs s (omega arith)
 
 module _ (at k : ℕ) (bs s t : List ℕ) (long : length bs ≡ k) (e : t ≡ overwritten at bs s) where
   same_long : at + k ≤ length s → length t ≡ length s

@@ -40,8 +40,11 @@ unfoldable pub is_scaled : Settings → Bool
 is_scaled g = scales (factor_answer g.width g.height g.mode)
 
 -- "18 × depth / 8": a threshold at the depth of the settings, each operation rounded once in the order written
+abbrev pub scaled_to : Settings → Float → Float
+scaled_to g base = div binary64 (mul binary64 base (of_int binary64 (pos g.bit_depth))) (of_int binary64 (pos 8))
+
 abbrev pub at_depth : ℕ → Settings → Float
-at_depth k g = div binary64 (mul binary64 (of_int binary64 (pos k)) (of_int binary64 (pos g.bit_depth))) (of_int binary64 (pos 8))
+at_depth k g = scaled_to g (of_int binary64 (pos k))
 
 unfoldable pub fast_threshold : Settings → Float
 fast_threshold g = at_depth 18 g

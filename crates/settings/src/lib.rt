@@ -3,7 +3,7 @@
 
 ghost use Rattle.std.specs.Prelude.{◌≡◌};
 ghost use Rattle.answer.specs.Answer.{fault_in};
-ghost use Rattle.settings.specs.Settings.{lookahead_offset, fast_threshold, importance_threshold, is_scaled, settings_fault};
+ghost use Rattle.settings.specs.Settings.{lookahead_offset, fast_threshold, importance_threshold, is_scaled, scaled_to, settings_fault};
 
 use answer::Refusal;
 
@@ -70,17 +70,23 @@ impl Settings {
         0
     }
 
+    // A threshold that is given at the base depth, at the settings' own.
+    fn at_depth(self, base: f64) -> f64
+        ensures { result ≡ scaled_to self base }
+    {
+        let depth = std::num::nearest_u64_to_f64(self.bit_depth);
+        base * depth / Settings::BASE_DEPTH
+    }
+
     pub fn fast_threshold(self) -> f64
         ensures { result ≡ fast_threshold self }
     {
-        let depth = std::num::nearest_u64_to_f64(self.bit_depth);
-        Settings::FAST_THRESHOLD * depth / Settings::BASE_DEPTH
+        self.at_depth(Settings::FAST_THRESHOLD)
     }
 
     pub fn importance_threshold(self) -> f64
         ensures { result ≡ importance_threshold self }
     {
-        let depth = std::num::nearest_u64_to_f64(self.bit_depth);
-        Settings::IMP_BLOCK_DIFF_THRESHOLD * depth / Settings::BASE_DEPTH
+        self.at_depth(Settings::IMP_BLOCK_DIFF_THRESHOLD)
     }
 }

@@ -3,3 +3,4 @@ pub mod Room
 pub mod Well
 pub mod Fine
 pub mod Unique
+pub mod Refused

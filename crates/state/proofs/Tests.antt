@@ -1,11 +1,14 @@
 -- What a test that fails, or holds, says of its parts, and back.
 -- Assumes nothing.
-use mathlib.Core.Path.{◌≡◌, refl}
+use mathlib.Core.Path.{◌≡◌, refl, ap}
 use mathlib.Core.Bool.{Bool, true, false, not, ◌&&◌, ◌||◌}
+use mathlib.Core.List.{List, [], ◌∷◌}
 use Prim.Native.Nat.{ℕ, ◌<◌}
 use native.Mathlib.Omega.{arith}
 use lib.Dec.{eqb}
 use borrow.Author.Tests.{eqb-true, not-false}
+use Rattle.std.specs.List.{list_any}
+use Rattle.score.specs.Search.{any_of}
 use Rattle.answer.proofs.Laws.{or_no}
 
 -- a disjunction that fails
@@ -34,3 +37,9 @@ not_eqb m n e = eqb-true m n (not-false _ e)
 
 pub positive : (n : ℕ) → (n ≡ 0 → ⊥) → 0 < n
 positive n h = omega (arith, h)
+
+-- the library's search is this repository's
+pub any_same : {A : Type 0} (test : A → Bool) (l : List A) → list_any test l ≡ any_of test l
+unfolding any_of
+any_same test [] = refl
+any_same test (x ∷ l) = ap (λ (b : Bool). test x || b) (any_same test l)

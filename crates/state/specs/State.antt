@@ -4,6 +4,7 @@ use Rattle.settings.specs.declared.Settings.{Settings}
 use Rattle.score.specs.declared.ScenecutResult.{ScenecutResult}
 use Rattle.score.specs.Deque.{content}
 use Rattle.state.specs.declared.State.{State}
+use Rattle.state.specs.declared.Call as given
 
 -- the settings, the entries with the front first, the deque's own count, the offset o, and the last accepted call's number and length,
 -- the first one's number and the release number. No rule and no refusal reads the count, since all go by the entries. It is here so
@@ -42,3 +43,7 @@ pub record Call : Type 0 where
 
 abbrev pub call : ℕ → ℕ → ℕ → List Float → List Float → List Float → Call
 call long n p ds is ts = record { set_length = long; number = n; keyframe = p; inter = ds; importance = is; threshold = ts }
+
+-- the one that the code is given
+abbrev pub call_of : given.Call → Call
+call_of c = call c.length c.number c.keyframe c.inter.now c.importance.now c.threshold.now

@@ -5,7 +5,7 @@
 ghost use Rattle.std.specs.Prelude.{◌||◌, ◌≡◌, ℕ, ◌+◌, ◌*◌, ◌≤◌, ◌<◌, ◌^◌, length, get_or};
 ghost use Rattle.answer.specs.Answer.{answer_of, answered};
 ghost use Rattle.answer.specs.Refusal.{refusal};
-ghost use Rattle.plane.specs.Planes.{byte, max_side, shapes_fault, too_large};
+ghost use Rattle.plane.specs.Planes.{max_side, shapes_fault, too_large};
 ghost use Rattle.sad.specs.Difference.{plane_sad};
 ghost use Rattle.strips.specs.Carry.{blocks_along};
 ghost use Rattle.strips.specs.Needs.{Sound, Taken, held};
@@ -15,10 +15,13 @@ ghost use Rattle.strips.specs.Strips.{kept, strip, start_of, start_after, add_of
 use answer::Refusal;
 use carry::Carry;
 use plane::{BLOCK_SIDE, Plane};
+use sums::Sample;
 
 mod carry;
-pub mod deep;
+mod measured;
 mod shape;
+
+pub use measured::Measured;
 
 // What the end gives: the number of whole blocks, the difference and the importance total.
 #[derive(Clone, Copy)]
@@ -57,61 +60,57 @@ pub fn start(depth: u64, width: usize, height: usize, carry: &mut [u64]) -> Resu
 // ---- the rows
 
 // A row from a place of the room on.
-fn lay_row(room: &mut [u8], at: usize, row: &[u8])
+fn lay_row<S: Sample>(room: &mut [S], at: usize, row: &[S])
     requires { at + length row.now ≤ length room.old }
-    ensures { room.new ≡ laid at (length row.now) (λ (k : ℕ). get_or row.now k 0) room.old }
+    ensures { S.values room.new ≡ laid at (length row.now) (λ (k : ℕ). get_or (S.values row.now) k 0) (S.values room.old) }
 {
     sums::copy(&mut room[at..], row);
 }
 
 // A row of each frame to its place in the room.
-fn hold_row(c: Carry, y: usize, first: &[u8], second: &[u8], room: &mut [u8])
+fn hold_row<S: Sample>(c: Carry, y: usize, first: &[S], second: &[S], room: &mut [S])
     requires width_le_max_side { c.width ≤ max_side }
     requires c_in_bounds { room_long c ≤ length room.old }
     requires first_len { (length first.now ≡ c.width) × (length second.now ≡ c.width) }
-    ensures { room.new ≡ rows_laid c y (λ (k : ℕ). get_or first.now k 0) (λ (k : ℕ). get_or second.now k 0) room.old }
+    ensures { S.values room.new ≡ rows_laid c y (λ (k : ℕ). get_or (S.values first.now) k 0) (λ (k : ℕ). get_or (S.values second.now) k 0) (S.values room.old) }
 {
-    let width = c.width;
     let slot = y % BLOCK_SIDE;
-    lay_row(room, slot * width, first);
-    lay_row(room, (BLOCK_SIDE + slot) * width, second);
+    lay_row(room, slot * c.width, first);
+    lay_row(room, (BLOCK_SIDE + slot) * c.width, second);
 }
 
-// A row of blocks whose eighth row has come: its costs go to the list, and what the importance total rises by comes back.
-fn finish(c: Carry, y: usize, room: &[u8], costs: &mut [u32]) -> u64
-    requires sound { Sound byte c }
+// A row of blocks whose eighth row has come: its costs go to the list, and what the importance total rises by comes back. Only rubbish in the
+// room can be refused, and then nothing is written and nothing rises.
+fn finish<S: Measured>(c: Carry, y: usize, room: &[S], costs: &mut [u32]) -> u64
+    requires sound { Sound S.Depths.word c }
     requires c_in_bounds { room_long c ≤ length room.now }
     requires y_lt_max_side { y < max_side }
     requires c_in_bounds_2 { y * blocks_along c + blocks_along c ≤ length costs.old }
-    ensures value { result ≡ blocks_rise byte c room.now }
-    ensures costs_after { costs.new ≡ blocks_costs byte c y room.now costs.old }
+    ensures value { result ≡ blocks_rise S.Depths.word c (S.Sample.values room.now) }
+    ensures costs_after { costs.new ≡ blocks_costs S.Depths.word c y (S.Sample.values room.now) costs.old }
 {
-    let depth = c.depth;
     let p = shape::held_plane(c, 0);
     let q = shape::held_plane(c, BLOCK_SIDE * c.width);
     let at = y * (c.width / BLOCK_SIDE);
-    let _count = intra::plane_costs(depth, q, room, &mut costs[at..]);
-    let Whole::Number(rise) = importance::importance_total(depth, p, room, q, room) else {
-        return 0;
-    };
-    rise
+    let _ = intra::plane_costs(c.depth, q, room, &mut costs[at..]);
+    importance::importance_total(c.depth, p, room, q, room).unwrap_or(0)
 }
 
 // Row j of the strips: to the room, and where it is a row of blocks' eighth, the row of blocks is finished. What the importance total
 // rises by comes back.
-fn add_row(
+fn add_row<S: Measured>(
     c: Carry,
     p: Plane,
-    a: &[u8],
+    a: &[S],
     q: Plane,
-    b: &[u8],
+    b: &[S],
     j: usize,
-    room: &mut [u8],
+    room: &mut [S],
     costs: &mut [u32],
 ) -> u64
-    requires taken { Taken byte c p (length a.now) q (length b.now) (length room.old) (length costs.old) }
+    requires taken { Taken S.Depths.word c p (length a.now) q (length b.now) (length room.old) (length costs.old) }
     requires j_lt_height { j < p.height }
-    ensures by_index { (t : ℕ) → held (t + result) room.new costs.new ≡ held_row byte c (strip p a.now q b.now) j (held t room.old costs.old) }
+    ensures by_index { (t : ℕ) → held (t + result) (S.Sample.values room.new) costs.new ≡ held_row S.Depths.word c (strip p (S.Sample.values a.now) q (S.Sample.values b.now)) j (held t (S.Sample.values room.old) costs.old) }
     ensures upper_bound { result < 2 ^ 42 }
 {
     let y = c.rows + j;
@@ -123,17 +122,17 @@ fn add_row(
 }
 
 // All rows of the strips. What the importance total is then comes back.
-fn add_rows(
+fn add_rows<S: Measured>(
     c: Carry,
     p: Plane,
-    a: &[u8],
+    a: &[S],
     q: Plane,
-    b: &[u8],
-    room: &mut [u8],
+    b: &[S],
+    room: &mut [S],
     costs: &mut [u32],
 ) -> u64
-    requires { Taken byte c p (length a.now) q (length b.now) (length room.old) (length costs.old) }
-    ensures { held result room.new costs.new ≡ held_rows byte c (strip p a.now q b.now) p.height (held c.importance room.old costs.old) }
+    requires { Taken S.Depths.word c p (length a.now) q (length b.now) (length room.old) (length costs.old) }
+    ensures { held result (S.Sample.values room.new) costs.new ≡ held_rows S.Depths.word c (strip p (S.Sample.values a.now) q (S.Sample.values b.now)) p.height (held c.importance (S.Sample.values room.old) costs.old) }
 {
     let mut total = c.importance;
     for j in 0..p.height {
@@ -145,47 +144,43 @@ fn add_rows(
 // ---- a strip
 
 // The difference of strips whose shapes are not refused, or 16, its only refusal, where a sample is too large. Without a row there is none.
-fn strip_difference(depth: u64, p: Plane, a: &[u8], q: Plane, b: &[u8]) -> Whole
-    requires b_value { 0 < p.height → shapes_fault byte depth p (length a.now) q (length b.now) ≡ 0 }
+fn strip_difference<S: Measured>(
+    depth: u64,
+    p: Plane,
+    a: &[S],
+    q: Plane,
+    b: &[S],
+) -> Result<u64, Refusal>
+    requires b_value { 0 < p.height → shapes_fault S.Depths.word depth p (length a.now) q (length b.now) ≡ 0 }
     requires height_value { p.height ≡ q.height }
-    ensures { whole_answer result ≡ answered (refusal 16 (too_large depth p a.now || too_large depth q b.now)) (plane_sad p a.now q b.now) }
+    ensures { answer_of result ≡ answered (refusal 16 (too_large depth p (S.Sample.values a.now) || too_large depth q (S.Sample.values b.now))) (plane_sad p (S.Sample.values a.now) q (S.Sample.values b.now)) }
 {
     if p.height == 0 {
-        return Whole::Number(0);
+        return Ok(0);
     }
     sad::plane_difference(depth, p, a, q, b)
 }
 
 // Takes matching strips of both frames: the rows that have come. A refused call writes nothing.
-pub fn add(
+pub fn add<S: Measured>(
     carry: &mut [u64],
     p: Plane,
-    a: &[u8],
+    a: &[S],
     q: Plane,
-    b: &[u8],
-    room: &mut [u8],
+    b: &[S],
+    room: &mut [S],
     costs: &mut [u32],
-) -> Whole
-    ensures result_value { whole_answer result ≡ add_of byte (kept carry.old room.old costs.old) (strip p a.now q b.now) }
-    ensures costs_after { kept carry.new room.new costs.new ≡ add_after byte (kept carry.old room.old costs.old) (strip p a.now q b.now) }
+) -> Result<u64, Refusal>
+    ensures result_value { answer_of result ≡ add_of S.Depths.word (kept carry.old (S.Sample.values room.old) costs.old) (strip p (S.Sample.values a.now) q (S.Sample.values b.now)) }
+    ensures costs_after { kept carry.new (S.Sample.values room.new) costs.new ≡ add_after S.Depths.word (kept carry.old (S.Sample.values room.old) costs.old) (strip p (S.Sample.values a.now) q (S.Sample.values b.now)) }
 {
-    let unfit = carry::carry_fault(carry);
-    if unfit != 0 {
-        return Whole::Refused(unfit);
-    }
-    let c = carry::lent_carry(carry);
-    let word = plane::byte_fault(c.depth);
-    let fault = shape::shape_fault(word, c, p, a.len(), q, b.len(), room.len(), costs.len());
-    if fault != 0 {
-        return Whole::Refused(fault);
-    }
-    let Whole::Number(more) = strip_difference(c.depth, p, a, q, b) else {
-        return Whole::Refused(16);
-    };
+    let c = carry::fit_carry(carry)?;
+    shape::shape_fault::<S>(c, p, a.len(), q, b.len(), room.len(), costs.len())?;
+    let more = strip_difference(c.depth, p, a, q, b)?;
     let importance = add_rows(c, p, a, q, b, room, costs);
     let next = carry::came(c, p, more, importance);
     carry::put_carry(carry, next);
-    Whole::Number(next.rows as u64)
+    Ok(next.rows as u64)
 }
 
 // ---- the end

@@ -22,14 +22,14 @@ pub fn quotient(total: u64, count: u64) -> f64
 pub fn lesser(a: usize, b: usize) -> usize
     ensures { result ≡ min a b }
 {
-    if a <= b { a } else { b }
+    a.min(b)
 }
 
 // The places of one list at the start of another, as far as both go. What lies behind them stays.
 pub fn copy<S: Sample>(to: &mut [S], from: &[S])
     ensures { S.values to.new ≡ copied (S.values from.now) (S.values to.old) }
 {
-    let n = lesser(to.len(), from.len());
+    let n = to.len().min(from.len());
     for k in 0..n {
         to[k] = from[k];
     }

@@ -36,4 +36,7 @@ pub trait Sample: Copy {
     ghost each: { (s : List Self) → values s ≡ map value s };
 
     ghost narrow: { most ≤ word_most };
+
+    // It takes two bytes at most, so that an array of samples has room in memory.
+    ghost room: { TakesTwoBytes Self.row };
 }

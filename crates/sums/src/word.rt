@@ -16,6 +16,8 @@ impl Sample for u16 {
 
     ghost narrow = { Prim.search rules };
 
+    ghost room = { Prim.search rules };
+
     fn widened(self) -> u32 {
         self as u32
     }

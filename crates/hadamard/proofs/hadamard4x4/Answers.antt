@@ -1,28 +1,19 @@
--- `hadamard::hadamard4x4` meets its contract: a refused list is as it was, and any other is a line of 16. Assumes nothing.
-use mathlib.Core.Path.{◌≡◌, sym, ◌∙◌}
+-- `hadamard::hadamard4x4` meets its contract: a list that is not refused is a line of 16. Assumes nothing.
+use mathlib.Core.Path.{sym, ◌∙◌}
 use native.Mathlib.Omega.{arith}
-use Rattle.answer.proofs.Laws.{lent_written, lent_kept}
+use Rattle.answer.proofs.Laws.{lent_written}
 use Rattle.hadamard.specs.Transform.{entry_most, transform_fault, transformed}
 use Rattle.hadamard.proofs.Range.{unrefused}
 use Rattle.hadamard.proofs.Square.{square_line, line_square}
 use Rattle.hadamard.proofs.hadamard4x4.Goals as goal
 
-pub returns-then-refused-ne0 : goal.returns-then-refused-ne0
-returns-then-refused-ne0 c =
+pub line16-requires-clause-line_in : goal.line16-requires-clause-line_in
+line16-requires-clause-line_in c =
     let l = c.args.block.now in
-    record { value = c.fault-refused.ensures; block_after = lent_kept c.fault-refused.result (transform_fault 4 l) (transformed 4 l) l c.fault-refused.ensures c.if-refused-ne0.true }
+    let f = unrefused 4 l (sym c.in_ok-fault.ensures) in
+    square_line 2 (omega arith) l f.0 entry_most f.1
 
-pub line16-requires : goal.line16-requires
-line16-requires c =
-    -- past the test the list is not refused
-    let free : transform_fault 4 c.args.block.now ≡ 0 = sym c.fault-refused.ensures ∙ c.if-refused-ne0.false in
+pub returns-clause-block_after : goal.returns-clause-block_after
+returns-clause-block_after c =
     let l = c.args.block.now in
-    let f = unrefused 4 l free in
-    record { step_nonzero = omega arith; line_in = square_line 2 (omega arith) l f.0 entry_most f.1 }
-
-pub returns : goal.returns
-returns c =
-    let free : transform_fault 4 c.args.block.now ≡ 0 = sym c.fault-refused.ensures ∙ c.if-refused-ne0.false in
-    let l = c.args.block.now in
-    let f = free in
-    record { value = sym f; block_after = c.line16.ensures ∙ line_square 2 (omega arith) l (unrefused 4 l f).0 ∙ lent_written (transform_fault 4 l) (transformed 4 l) l (sym f) }
+    c.line16.ensures ∙ line_square 2 (omega arith) l (unrefused 4 l (sym c.in_ok-fault.ensures)).0 ∙ lent_written (transform_fault 4 l) (transformed 4 l) l c.in_ok-fault.ensures

@@ -1,8 +1,11 @@
--- `hadamard::hadamard8x8` meets its contract: a refused list is as it was, and any other is a line of 64, which is four columns of 16 and then
--- 16 rows. Assumes nothing.
+-- `hadamard::hadamard8x8` meets its contract: a list that is not refused is a line of 64, which is four columns of 16 and then 16 rows. Assumes
+-- nothing.
 use mathlib.Core.Path.{◌≡◌, sym, ap, ◌∙◌}
+use mathlib.Core.List.{List}
 use native.Mathlib.Omega.{arith}
-use Rattle.answer.proofs.Laws.{lent_written, lent_kept}
+use lib.IntN.{ℤ}
+use lib.ListN.{length}
+use Rattle.answer.proofs.Laws.{lent_written}
 use Rattle.hadamard.specs.Transform.{output, entry_most, transform_fault, transformed}
 use Rattle.hadamard.specs.Steps.{all_lined, LineIn}
 use Rattle.hadamard.proofs.Grid.{columns_in, rows_in, grid}
@@ -11,41 +14,29 @@ use Rattle.hadamard.proofs.Range.{unrefused}
 use Rattle.hadamard.proofs.Square.{square_line, line_square}
 use Rattle.hadamard.proofs.hadamard8x8.Goals as goal
 
-pub returns-then-refused-ne0 : goal.returns-then-refused-ne0
-returns-then-refused-ne0 c =
-    let l = c.args.block.now in
-    record { value = c.fault-refused.ensures; block_after = lent_kept c.fault-refused.result (transform_fault 8 l) (transformed 8 l) l c.fault-refused.ensures c.if-refused-ne0.true }
+-- past the test the list is a line of 64
+module _ (l : List ℤ) (free : 0 ≡ transform_fault 8 l) where
+  long : length l ≡ 64
+  long = (unrefused 8 l (sym free)).0
+
+  line : LineIn 64 0 1 entry_most l
+  line = square_line 3 (omega arith) l long entry_most (unrefused 8 l (sym free)).1
 
 pub columns-requires : goal.columns-requires
-columns-requires c =
-    -- past the test the list is not refused
-    let free : transform_fault 8 c.args.block.now ≡ 0 = sym c.fault-refused.ensures ∙ c.if-refused-ne0.false in
-    let line : LineIn 64 0 1 entry_most c.args.block.now = let l = c.args.block.now in
-    let f = unrefused 8 l free in
-    square_line 3 (omega arith) l f.0 entry_most f.1 in
-    columns_in 16 1 (omega arith) entry_most c.args.block.now line
+columns-requires c = columns_in 16 1 (omega arith) entry_most c.args.block.now (line c.args.block.now c.in_ok-fault.ensures)
 
 pub rows-requires : goal.rows-requires
 rows-requires c =
-    let free : transform_fault 8 c.args.block.now ≡ 0 = sym c.fault-refused.ensures ∙ c.if-refused-ne0.false in
-    let line : LineIn 64 0 1 entry_most c.args.block.now = let l = c.args.block.now in
-    let f = unrefused 8 l free in
-    square_line 3 (omega arith) l f.0 entry_most f.1 in
     let l = c.args.block.now in
-    rw c.columns.ensures (record { block_len = length_lined (output 16) 16 1 4 4 l ∙ (unrefused 8 l free).0; lines_in = rows_in 16 1 (omega arith) entry_most l line })
+    let free = c.in_ok-fault.ensures in
+    rw c.columns.ensures (record { block_len = length_lined (output 16) 16 1 4 4 l ∙ long l free; lines_in = rows_in 16 1 (omega arith) entry_most l (line l free) })
 
-pub returns : goal.returns
-returns c =
-    let free : transform_fault 8 c.args.block.now ≡ 0 = sym c.fault-refused.ensures ∙ c.if-refused-ne0.false in
-    let line : LineIn 64 0 1 entry_most c.args.block.now = let l = c.args.block.now in
-    let f = unrefused 8 l free in
-    square_line 3 (omega arith) l f.0 entry_most f.1 in
+pub returns-clause-block_after : goal.returns-clause-block_after
+returns-clause-block_after c =
     let l = c.args.block.now in
-    let f = free in record {
-      value = sym f;
-      block_after = c.rows.ensures
-          ∙ ap (all_lined 4 4 1 16) c.columns.ensures
-          ∙ grid 16 1 (omega arith) entry_most l line
-          ∙ line_square 3 (omega arith) l (unrefused 8 l f).0
-          ∙ lent_written (transform_fault 8 l) (transformed 8 l) l (sym f);
-    }
+    let free = c.in_ok-fault.ensures in
+    c.rows.ensures
+    ∙ ap (all_lined 4 4 1 16) c.columns.ensures
+    ∙ grid 16 1 (omega arith) entry_most l (line l free)
+    ∙ line_square 3 (omega arith) l (long l free)
+    ∙ lent_written (transform_fault 8 l) (transformed 8 l) l free

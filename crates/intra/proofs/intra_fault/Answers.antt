@@ -1,21 +1,30 @@
--- `intra::intra_fault` meets its contract: the refusal of shapes and blocks comes first, and of planes that are not refused the block count fits. Assumes nothing.
-use mathlib.Core.Path.{sym, ◌∙◌}
-use native.Mathlib.Omega.{arith}
-use Rattle.plane.specs.Planes.{byte}
-use Rattle.intra.proofs.CostLaws.{planes_refused, no_room, bytes_enough, count_fits}
+-- `intra::intra_fault` meets its contract: the refusal of shapes and blocks comes first, then 4, and then the samples decide. Assumes nothing.
+use Rattle.std.proofs.Common.{sym, length, arith}
+use Rattle.answer.proofs.Laws.{refusals}
+use Rattle.plane.proofs.BlockLaws.{by_blocks, shapes_count}
+use Rattle.sums.proofs.SampleLaws.{length_values}
+use Rattle.intra.specs.Costs.{room_fault, intra_fault}
+use Rattle.intra.proofs.CostLaws.{no_room, samples_decide}
 use Rattle.intra.proofs.intra_fault.Goals as goal
 
-pub returns-then-fault-ne0 : goal.returns-then-fault-ne0
-returns-then-fault-ne0 c = planes_refused byte _ _ _ _ _ _ _ c.blocks_fault-fault.ensures c.if-fault-ne0.true
+pub returns-in_err-blocks_fault : goal.returns-in_err-blocks_fault
+unfolding intra_fault room_fault
+returns-in_err-blocks_fault g c =
+    let as_long = length_values g.met.S.Sample.each in
+    rw (as_long c.args.s.now, as_long c.args.work.now) (grind (arith, refusals))
 
 pub overflow_mul-p : goal.overflow_mul-p
-overflow_mul-p c =
+overflow_mul-p g c =
     let s = c.args in
-    omega (arith, count_fits byte s.depth s.p s.s.now s.w s.work.now s.room (sym c.blocks_fault-fault.ensures ∙ c.if-fault-ne0.false))
+    let none = sym c.in_ok-blocks_fault.ensures in
+    omega (arith, shapes_count g.S.Depths.word s.depth s.p (length s.s.now) s.w (length s.work.now) (by_blocks _ _ _ _ _ _ none).0)
 
 pub returns-then-room-p : goal.returns-then-room-p
-returns-then-room-p c = no_room byte _ _ _ _ _ _ (sym c.if-fault-ne0.false ∙ c.blocks_fault-fault.ensures) c.if-room-p.true
+returns-then-room-p g c =
+    let as_long = length_values g.met.S.Sample.each in
+    no_room _ _ _ _ _ _ _ (rw (as_long c.args.s.now, as_long c.args.work.now) c.in_ok-blocks_fault.ensures) c.if-room-p.true
 
 pub returns : goal.returns
-returns c =
-    bytes_enough _ _ _ _ _ _ (λ i. omega (arith, c.shared_slice_known-1.given i)) (sym c.if-fault-ne0.false ∙ c.blocks_fault-fault.ensures) c.if-room-p.false
+returns g c =
+    let as_long = length_values g.met.S.Sample.each in
+    samples_decide _ _ _ _ _ _ _ (rw (as_long c.args.s.now, as_long c.args.work.now) c.in_ok-blocks_fault.ensures) c.if-room-p.false _ c.sample_fault.ensures

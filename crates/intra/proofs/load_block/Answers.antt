@@ -1,74 +1,34 @@
 -- `intra::load_block` meets its contract. After j turns the first j rows of the block are copied, each from a part of the samples. Assumes nothing.
-use mathlib.Core.Path.{◌∙◌}
-use Prim.Native.Nat.{ℕ, ◌+◌, ◌*◌, ◌≤◌, ◌-◌}
+use mathlib.Core.Path.{ap, ◌∙◌}
+use mathlib.Core.List.{List}
+use Prim.Native.Nat.{ℕ, ◌+◌, ◌-◌, ◌*◌}
 use native.Mathlib.Omega.{arith}
-use borrow.Author.Rules.{rules}
 use lib.Dec.{ltb}
-use lib.ListN.{length, get_or, take, drop, length-take, length-drop}
+use lib.ListN.{get_or, take, drop, length-take, length-drop}
 use Rattle.plane.specs.Blocks.{block_side}
 use Rattle.satd.specs.Satd.{block_size}
+use Rattle.sums.proofs.SampleLaws.{length_values}
 use Rattle.sums.proofs.WrittenLaws.{prefix_all}
-use Rattle.intra.proofs.CostLaws.{row_of_square}
+use Rattle.intra.proofs.CostLaws.{wrote_copied, part_values, row_of_square}
 use Rattle.sums.proofs.PlaceLaws.{fronts_next}
-use Rattle.sums.proofs.Wrote.{wrote_part, wrote_all, front_none}
+use Rattle.sums.proofs.Wrote.{wrote_all, front_none}
 use Rattle.intra.proofs.load_block.Goals as goal
 
 pub loop-j-init : goal.loop-j-init
-loop-j-init c = (search rules, front_none _ _)
-
-pub overflow_mul-i : goal.overflow_mul-i
-overflow_mul-i c =
-    -- row j lies within the samples, and its eight places within the block
-    let inside : let s = c.args in (s.start + c.loop-j.j * s.stride + 8 ≤ length s.s.now) × (c.loop-j.j * 8 + 8 ≤ length s.block.now) = (c.requires.square_in.rows c.loop-j.j (omega arith), omega (arith, c.requires.block_len)) in
-    omega (arith, inside)
-
-pub overflow_add-i : goal.overflow_add-i
-overflow_add-i c =
-    let inside : let s = c.args in (s.start + c.loop-j.j * s.stride + 8 ≤ length s.s.now) × (c.loop-j.j * 8 + 8 ≤ length s.block.now) = (c.requires.square_in.rows c.loop-j.j (omega arith), omega (arith, c.requires.block_len)) in
-    omega (arith, inside)
-
-pub slice_bounds-copy_row-count : goal.slice_bounds-copy_row-count
-slice_bounds-copy_row-count c =
-    let inside : let s = c.args in (s.start + c.loop-j.j * s.stride + 8 ≤ length s.s.now) × (c.loop-j.j * 8 + 8 ≤ length s.block.now) = (c.requires.square_in.rows c.loop-j.j (omega arith), omega (arith, c.requires.block_len)) in
-    omega (arith, inside)
-
-pub slice_bounds-copy_row-start : goal.slice_bounds-copy_row-start
-slice_bounds-copy_row-start c =
-    let inside : let s = c.args in (s.start + c.loop-j.j * s.stride + 8 ≤ length s.s.now) × (c.loop-j.j * 8 + 8 ≤ length s.block.now) = (c.requires.square_in.rows c.loop-j.j (omega arith), omega (arith, c.requires.block_len)) in
-    omega (arith, inside)
-
-pub slice_bounds-copy_row-count-in-loop-j : goal.slice_bounds-copy_row-count-in-loop-j
-slice_bounds-copy_row-count-in-loop-j c =
-    let inside : let s = c.args in (s.start + c.loop-j.j * s.stride + 8 ≤ length s.s.now) × (c.loop-j.j * 8 + 8 ≤ length s.block.now) = (c.requires.square_in.rows c.loop-j.j (omega arith), omega (arith, c.requires.block_len)) in
-    omega (arith, inside)
-
-pub slice_bounds-copy_row-start-in-loop-j : goal.slice_bounds-copy_row-start-in-loop-j
-slice_bounds-copy_row-start-in-loop-j c =
-    let inside : let s = c.args in (s.start + c.loop-j.j * s.stride + 8 ≤ length s.s.now) × (c.loop-j.j * 8 + 8 ≤ length s.block.now) = (c.requires.square_in.rows c.loop-j.j (omega arith), omega (arith, c.requires.block_len)) in
-    omega (arith, inside)
-
-pub copy_row-requires : goal.copy_row-requires
-copy_row-requires c =
-    let inside : let s = c.args in (s.start + c.loop-j.j * s.stride + 8 ≤ length s.s.now) × (c.loop-j.j * 8 + 8 ≤ length s.block.now) = (c.requires.square_in.rows c.loop-j.j (omega arith), omega (arith, c.requires.block_len)) in
-    let h = inside in
-    record { block_side_in_bounds = simp (length-take, length-drop) (omega arith); block_side_in_bounds_2 = simp (length-take, length-drop) (omega arith) }
+loop-j-init g c = front_none _ _
 
 pub loop-j-preserved : goal.loop-j-preserved
-loop-j-preserved c =
-    let inside : let s = c.args in (s.start + c.loop-j.j * s.stride + 8 ≤ length s.s.now) × (c.loop-j.j * 8 + 8 ≤ length s.block.now) = (c.requires.square_in.rows c.loop-j.j (omega arith), omega (arith, c.requires.block_len)) in
+loop-j-preserved g c =
     let s = c.args in
-    let h = inside in
-    let i = s.start + c.loop-j.j * s.stride in (
-      search rules,
-      wrote_part c.loop-j.invariant.1 _ block_side (λ (k : ℕ). get_or (take (length s.s.now - i) (drop i s.s.now)) k 0) h.1
-          (λ k k<. row_of_square s.s.now s.start s.stride c.loop-j.j k h.0 k<) _ c.copy_row.ensures
-          (fronts_next block_side c.loop-j.j),
-    )
-
-pub shape_of-block : goal.shape_of-block
-shape_of-block c = c.loop-j.invariant.1.same
+    let each = g.met.S.Sample.each in
+    let i = s.start + c.loop-j.j * s.stride in
+    let inside = c.requires.rows c.loop-j.j c.loop-j-test.true in
+    wrote_copied each c.loop-j.invariant _ block_side (take (i + 8 - i) (drop i s.s.now)) _ c.copy.ensures (simp (length-take, length-drop) (omega arith))
+    (omega (arith, c.told-block))
+    (λ k k<. ap (λ (l : List ℕ). get_or l k 0) (part_values each i (i + 8 - i) s.s.now) ∙ row_of_square (g.S.Sample.values s.s.now) s.start s.stride c.loop-j.j _ k (omega arith) k<)
+    (fronts_next block_side c.loop-j.j)
 
 pub returns : goal.returns
-returns c =
-    wrote_all (λ (n k : ℕ). ltb k (n * block_side)) c.loop-j.j block_side c.loop-j.invariant.1 (omega arith)
-    ∙ prefix_all block_size _ c.args.block.now c.requires.block_len
+returns g c =
+    wrote_all (λ (n k : ℕ). ltb k (n * block_side)) c.loop-j.j block_side c.loop-j.invariant (omega arith)
+    ∙ prefix_all block_size _ _ (length_values g.met.S.Sample.each c.args.block.now ∙ c.told-block)

@@ -1,39 +1,18 @@
--- `intra::plane_costs` meets its contract: refused as a plane that is its own work plane; else all blocks are priced. Assumes nothing.
-use mathlib.Core.Path.{◌≡◌, refl, sym, ap, ◌∙◌}
-use Prim.Native.Nat.{ℕ}
-use native.Mathlib.Omega.{arith}
-use borrow.Author.Tests.{eqb-true}
-use lib.ListN.{length}
-use Rattle.answer.proofs.Laws.{answer_given, answer_refused, lent_written, lent_kept}
-use Rattle.plane.specs.Planes.{byte}
-use Rattle.plane.proofs.PlaneLaws.{sizes_alone}
-use Rattle.intra.specs.Costs.{costs_after, intra_fault}
-use Rattle.intra.specs.Fill.{flat_sample}
-use Rattle.intra.proofs.CostLaws.{fine, suits_word, blocks_most, alone}
+-- `intra::plane_costs` meets its contract: where nothing is refused the plane passes, and there is room. Assumes nothing.
+use Rattle.std.proofs.Common.{length, sym}
+use Rattle.sums.proofs.SampleLaws.{length_values}
+use Rattle.intra.proofs.CostLaws.{Fine, fine_alone}
+use Rattle.intra.proofs.plane_costs.Given as given
 use Rattle.intra.proofs.plane_costs.Goals as goal
+use Rattle.intra.proofs.plane_costs.Goals.{In_ok-costs_fault}
 
-pub returns-then-fault-ne0 : goal.returns-then-fault-ne0
-returns-then-fault-ne0 c =
-    let e = alone byte _ _ _ _ _ c.intra_fault-fault.ensures in
-    record { result_value = answer_refused _ _ _ e c.if-fault-ne0.true; costs_after = lent_kept _ _ _ _ e c.if-fault-ne0.true }
+passes : (g : given.Over) (c : In_ok-costs_fault g) → let s = c.args in let n = length s.s.now in Fine g.S.Depths.word s.depth s.p n s.p n (length s.costs.now)
+passes g c = fine_alone _ (sym c.in_ok-costs_fault.ensures) _ (length_values g.met.S.Sample.each c.args.s.now)
+
+pub flat_sample-requires : goal.flat_sample-requires
+flat_sample-requires g c = (passes g (goal.at.flat_sample-requires g c).In_ok-costs_fault).suits_it
 
 pub all_blocks-requires : goal.all_blocks-requires
-all_blocks-requires c =
-    -- past the test nothing is refused
-    let none : let s = c.args in 0 ≡ intra_fault byte s.depth s.p s.s.now s.p s.s.now (length s.costs.now) = sym c.if-fault-ne0.false ∙ c.intra_fault-fault.ensures in
-    let f = fine byte _ _ _ _ _ _ (sym none) in record { s_value = sym (sizes_alone _ _) ∙ f.0; p_in_bounds = f.1 }
-
-pub overflow_mul-result : goal.overflow_mul-result
-overflow_mul-result c =
-    let none : let s = c.args in 0 ≡ intra_fault byte s.depth s.p s.s.now s.p s.s.now (length s.costs.now) = sym c.if-fault-ne0.false ∙ c.intra_fault-fault.ensures in
-    let s = c.args in
-    omega (arith, blocks_most byte s.depth s.p s.s.now s.p s.s.now (length s.costs.now) (sym none))
-
-pub returns : goal.returns
-returns c =
-    let none : let s = c.args in 0 ≡ intra_fault byte s.depth s.p s.s.now s.p s.s.now (length s.costs.now) = sym c.if-fault-ne0.false ∙ c.intra_fault-fault.ensures in
-    -- and the flat sample is that of 8 bits
-    let flat : flat_sample c.args.depth ≡ 128 = ap flat_sample (eqb-true _ 8 (suits_word byte _ _ _ _ _ _ (sym none))) in
-    let s = c.args in
-    let e = alone byte _ _ _ _ 0 none in
-    record { result_value = answer_given _ _ _ e refl; costs_after = (c.all_blocks.ensures ∙ ap (λ (f : ℕ). costs_after f s.p s.s.now s.costs.now) (sym flat)) ∙ lent_written _ _ _ e }
+all_blocks-requires g c =
+    let passed = passes g (goal.at.all_blocks-requires g c).In_ok-costs_fault in
+    record { s_value = passed.first; p_in_bounds = passed.room_enough }

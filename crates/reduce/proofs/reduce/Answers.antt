@@ -1,22 +1,17 @@
 -- `reduce::reduce` meets its contract: a refusal leaves the lent samples as they were, and else all rows are written. Assumes nothing.
-use mathlib.Core.Path.{◌≡◌, sym, ◌∙◌}
-use Rattle.answer.proofs.Laws.{lent_written, lent_kept}
-use Rattle.plane.specs.Planes.{byte}
-use Rattle.reduce.specs.Reduce.{reduce_fault}
+use Rattle.std.proofs.Common.{sym, ◌∙◌}
+use Rattle.answer.proofs.Laws.{lent_written, lent_kept, number_some}
+use Rattle.sums.proofs.SampleLaws.{length_values}
 use Rattle.reduce.proofs.ReduceLaws.{fine}
 use Rattle.reduce.proofs.reduce.Goals as goal
 
-pub returns-then-fault-ne0 : goal.returns-then-fault-ne0
-returns-then-fault-ne0 c = let e = c.reduce_fault-fault.ensures in record { value = e; reduced_after = lent_kept _ _ _ _ e c.if-fault-ne0.true }
+pub returns-in_err-reduce_fault-clause-reduced_after : goal.returns-in_err-reduce_fault-clause-reduced_after
+returns-in_err-reduce_fault-clause-reduced_after g c = lent_kept _ _ _ _ c.in_err-reduce_fault.ensures (number_some c.in_err-reduce_fault.field-0.0)
 
 pub reduce_plane-requires : goal.reduce_plane-requires
-reduce_plane-requires c =
-    -- past the test nothing is refused
-    let none : let s = c.args in 0 ≡ reduce_fault byte s.depth s.factor s.p s.s.now s.q s.reduced.now = sym c.if-fault-ne0.false ∙ c.reduce_fault-fault.ensures in
-    fine byte _ _ _ _ _ _ (sym none)
+reduce_plane-requires g c =
+    let as_long = length_values g.met.S.Sample.each in
+    rw (← as_long c.args.s.now, ← as_long c.args.reduced.now) (fine _ _ _ _ _ _ _ (sym c.in_ok-reduce_fault.ensures))
 
-pub returns : goal.returns
-returns c =
-    let none : let s = c.args in 0 ≡ reduce_fault byte s.depth s.factor s.p s.s.now s.q s.reduced.now = sym c.if-fault-ne0.false ∙ c.reduce_fault-fault.ensures in
-    let e = none in
-    record { value = e; reduced_after = c.reduce_plane.ensures ∙ lent_written _ _ _ e }
+pub returns-clause-reduced_after : goal.returns-clause-reduced_after
+returns-clause-reduced_after g c = c.reduce_plane.ensures ∙ lent_written _ _ _ c.in_ok-reduce_fault.ensures

@@ -1,66 +1,56 @@
--- `reduce::reduce_plane` meets its contract. After y turns the first y rows of the lent plane have the means of their squares, each row lent as a part. Assumes nothing.
-use native.Mathlib.Omega.{arith}
-use borrow.Author.Rules.{rules}
-use lib.ListN.{length, length-take, length-drop}
+-- `reduce::reduce_plane` meets its contract. After a turn one row more of the lent plane has the means of its squares. Assumes nothing.
+use Rattle.std.proofs.Common.{◌+◌, ◌*◌, ◌≤◌, length, arith, rules}
+use borrow.Author.Rules.{scaled_fits≤}
 use Rattle.sums.proofs.PlaceLaws.{rows_none}
 use Rattle.sums.proofs.Wrote.{wrote_none}
-use Rattle.reduce.proofs.RowLaws.{Turn, plane_turn, row_wrote, rows_wrote}
+use Rattle.reduce.proofs.RowLaws.{plane_turn, lent_squares, lent_wrote, rows_wrote}
+use Rattle.reduce.proofs.reduce_plane.Given as given
 use Rattle.reduce.proofs.reduce_plane.Goals as goal
 
 pub loop-y-init : goal.loop-y-init
-loop-y-init c = (search rules, wrote_none _ _ _ (rows_none _ _ _))
+loop-y-init g c = wrote_none _ _ _ (rows_none _ _ _)
+
+-- the turn's row of the lent plane
+lent : (g : given.Over) (c : goal.In-loop-y g) → let q = c.args.q in q.origin + c.loop-y.y * q.stride + q.width ≤ length c.args.reduced.now
+lent g c = let t = plane_turn _ _ _ _ _ _ c.requires c.loop-y-test.true in omega (arith, t.lent)
 
 pub overflow_mul-at : goal.overflow_mul-at
-overflow_mul-at c =
-    -- what the turn has
-    let turn : let a = c.args in Turn a.factor (length a.s.now) (length a.reduced.now) a.p a.q c.loop-y.y = plane_turn c.args.factor _ _ c.args.p c.args.q c.loop-y.y c.requires c.loop-y-test.true in
-    omega (arith, turn.lent)
+overflow_mul-at g c = omega (arith, lent g c)
 
 pub overflow_add-at : goal.overflow_add-at
-overflow_add-at c =
-    let turn : let a = c.args in Turn a.factor (length a.s.now) (length a.reduced.now) a.p a.q c.loop-y.y = plane_turn c.args.factor _ _ c.args.p c.args.q c.loop-y.y c.requires c.loop-y-test.true in
-    omega (arith, turn.lent)
+overflow_add-at g c = omega (arith, lent g c)
 
-pub slice_bounds-reduce_row-count : goal.slice_bounds-reduce_row-count
-slice_bounds-reduce_row-count c =
-    let turn : let a = c.args in Turn a.factor (length a.s.now) (length a.reduced.now) a.p a.q c.loop-y.y = plane_turn c.args.factor _ _ c.args.p c.args.q c.loop-y.y c.requires c.loop-y-test.true in
-    omega (arith, turn.lent, c.loop-y.invariant.1.same)
+pub overflow_add-at-in-loop-y : goal.overflow_add-at-in-loop-y
+overflow_add-at-in-loop-y g c = omega (arith, lent g c)
 
-pub slice_bounds-reduce_row-start : goal.slice_bounds-reduce_row-start
-slice_bounds-reduce_row-start c =
-    let turn : let a = c.args in Turn a.factor (length a.s.now) (length a.reduced.now) a.p a.q c.loop-y.y = plane_turn c.args.factor _ _ c.args.p c.args.q c.loop-y.y c.requires c.loop-y-test.true in
-    omega (arith, turn.lent, c.loop-y.invariant.1.same)
+pub offset_bounds-reduced-at : goal.offset_bounds-reduced-at
+offset_bounds-reduced-at g c =
+    let q = c.args.q in
+    let begins : q.origin + c.loop-y.y * q.stride ≤ length c.args.reduced.now = omega (arith, lent g c) in
+    search (rules, scaled_fits≤)
+
+pub slice_bounds-reduce_row-end : goal.slice_bounds-reduce_row-end
+slice_bounds-reduce_row-end g c = omega (arith, lent g c)
 
 pub overflow_mul-y : goal.overflow_mul-y
-overflow_mul-y c =
-    let turn : let a = c.args in Turn a.factor (length a.s.now) (length a.reduced.now) a.p a.q c.loop-y.y = plane_turn c.args.factor _ _ c.args.p c.args.q c.loop-y.y c.requires c.loop-y-test.true in
-    omega (arith, turn.few)
+overflow_mul-y g c = let t = plane_turn _ _ _ _ _ _ c.requires c.loop-y-test.true in omega (arith, t.few)
 
 pub overflow_mul-y-in-loop-y : goal.overflow_mul-y-in-loop-y
-overflow_mul-y-in-loop-y c =
-    let turn : let a = c.args in Turn a.factor (length a.s.now) (length a.reduced.now) a.p a.q c.loop-y.y = plane_turn c.args.factor _ _ c.args.p c.args.q c.loop-y.y c.requires c.loop-y-test.true in
-    omega (arith, turn.start)
+overflow_mul-y-in-loop-y g c = let t = plane_turn _ _ _ _ _ _ c.requires c.loop-y-test.true in omega (arith, t.start)
 
 pub overflow_add-origin : goal.overflow_add-origin
-overflow_add-origin c =
-    let turn : let a = c.args in Turn a.factor (length a.s.now) (length a.reduced.now) a.p a.q c.loop-y.y = plane_turn c.args.factor _ _ c.args.p c.args.q c.loop-y.y c.requires c.loop-y-test.true in
-    omega (arith, turn.start)
+overflow_add-origin g c = let t = plane_turn _ _ _ _ _ _ c.requires c.loop-y-test.true in omega (arith, t.start)
 
-pub reduce_row-requires : goal.reduce_row-requires
-reduce_row-requires c =
-    let turn : let a = c.args in Turn a.factor (length a.s.now) (length a.reduced.now) a.p a.q c.loop-y.y = plane_turn c.args.factor _ _ c.args.p c.args.q c.loop-y.y c.requires c.loop-y-test.true in
-    record { factor_value = c.requires.factor_value; count_in_bounds = simp (length-take, length-drop) (omega (arith, turn.lent, c.loop-y.invariant.1.same)); rows_in = turn.squares }
+pub reduce_row-requires-clause-rows_in : goal.reduce_row-requires-clause-rows_in
+reduce_row-requires-clause-rows_in g c =
+    let t = plane_turn _ _ _ _ _ _ c.requires c.loop-y-test.true in
+    lent_squares g.met.S.Sample.each _ _ _ _ _ _ c.loop-y.auto.reduced _ t
 
 pub loop-y-preserved : goal.loop-y-preserved
-loop-y-preserved c =
-    let turn : let a = c.args in Turn a.factor (length a.s.now) (length a.reduced.now) a.p a.q c.loop-y.y = plane_turn c.args.factor _ _ c.args.p c.args.q c.loop-y.y c.requires c.loop-y-test.true in
+loop-y-preserved g c =
     let a = c.args in
-    (search rules, row_wrote a.factor a.p a.s.now a.q a.reduced.now _ c.loop-y.y c.loop-y.invariant.1 turn _ c.reduce_row.ensures)
-
-pub shape_of-reduced : goal.shape_of-reduced
-shape_of-reduced c = c.loop-y.invariant.1.same
+    let t = plane_turn _ _ _ _ _ _ c.requires c.loop-y-test.true in
+    lent_wrote g.met.S.Sample.each a.factor a.p a.s.now a.q a.reduced.now c.loop-y.reduced c.loop-y.auto.reduced c.loop-y.y t c.loop-y.invariant c.reduce_row.new.out c.reduce_row.ensures
 
 pub returns : goal.returns
-returns c =
-    let a = c.args in
-    rows_wrote a.factor a.p a.s.now a.q a.reduced.now _ c.loop-y.y c.loop-y.invariant.1 (omega arith)
+returns g c = let a = c.args in rows_wrote a.factor a.p _ a.q _ _ c.loop-y.y c.loop-y.invariant (omega arith)

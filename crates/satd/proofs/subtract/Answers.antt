@@ -6,12 +6,12 @@ use Rattle.satd.proofs.SatdLaws.{subtracted_none, subtracted_gap, subtracted_all
 use Rattle.satd.proofs.subtract.Goals as goal
 
 pub loop-i-init : goal.loop-i-init
-loop-i-init g c = subtracted_none _ _ _ c.requires.block_len
+loop-i-init g c = subtracted_none _ _ _ (search rules)
 
 pub loop-i-preserved : goal.loop-i-preserved
 loop-i-preserved g c =
     subtracted_gap g.met.S.Sample.each c.loop-i.invariant _ (to_z-of_z {w = w32} (sfits_of c.gap.type_inv) ∙ c.gap.ensures)
-    (omega (arith, c.requires.block_len)) c.requires.first_len c.requires.second_len (search rules) (search rules)
+    (search rules) (search rules) (search rules) (search rules) (search rules)
 
 pub returns : goal.returns
 returns g c = subtracted_all _ _ _ _ c.loop-i.invariant (omega arith)

@@ -1,19 +1,23 @@
 -- `score_log::append` meets its contract: the refusals in their order, or the record behind the last whole one. Assumes nothing.
 use mathlib.Core.Path.{◌≡◌, sym, ap, ◌∙◌}
 use mathlib.Core.List.{List}
-use Prim.Native.Nat.{ℕ, ◌+◌, ◌*◌, ◌/◌, ◌≤◌, ◌<◌}
+use Prim.Native.Nat.{ℕ, ◌+◌, ◌-◌, ◌*◌, ◌/◌, ◌≤◌, ◌<◌}
 use native.Mathlib.Nat.{suc-ne-zero}
 use native.Mathlib.Omega.{arith}
+use borrow.Author.Rules.{rules}
 use borrow.Author.Tests.{lt-ltb, le-ltb, ltb-false}
 use lib.Dec.{ltb}
-use lib.ListN.{length, take, length-take}
+use lib.ListN.{length, take}
 use lib.Seq.{length-take-le}
+use Rattle.std.specs.Prelude.{Err}
 use Rattle.answer.specs.Refusal.{refusal, ◌or_else◌}
-use Rattle.answer.proofs.Laws.{or_given, or_later, or_none, or_group, test_given, test_first, test_passed, test_later, passed, answer_given, answer_refused, lent_written, lent_kept}
+use Rattle.answer.proofs.Laws.{or_given, or_later, or_none, or_group, test_given, test_first, test_passed, test_later, passed, answer_given, answer_refused, lent_written, lent_kept, answer_handed, number_some}
 use Rattle.octets.specs.Octets.{overwritten}
 use Rattle.score_log.specs.declared.Record.{Record}
 use Rattle.score_log.specs.Records.{record_long, record_bytes}
 use Rattle.score_log.specs.Log.{whole_long, log_fault, new_fault, append_fault}
+use Rattle.score_log.proofs.RecordLaws.{record_long_lem}
+use Rattle.score_log.proofs.Puts.{part_put}
 use Rattle.score_log.proofs.append.Goals as goal
 
 -- the new record's cut is 0 or 1
@@ -58,32 +62,33 @@ returns-then-log-used c =
     let e = test_first 14 _ (ltb (length a.log.now) a.used) (lt-ltb (length a.log.now) a.used c.if-log-used.true) in
     record { result_value = answer_refused 15 _ _ e (suc-ne-zero 14); log_after = lent_kept 15 _ _ _ e (suc-ne-zero 14) }
 
-pub slice_bounds-new_fault-end-2 : goal.slice_bounds-new_fault-end-2
-slice_bounds-new_fault-end-2 c = omega (arith, length-take c.args.used c.args.log.now)
-
-pub returns-then-fault-ne0 : goal.returns-then-fault-ne0
-returns-then-fault-ne0 c =
-    let f = c.new_fault-fault in
+pub returns-in_err-new_fault : goal.returns-in_err-new_fault
+returns-in_err-new_fault c =
     let a = c.args in
-    let e = later a.log.now a.used a.r (omega arith) f.result f.ensures c.if-fault-ne0.true in
-    record { result_value = answer_refused f.result _ _ e c.if-fault-ne0.true; log_after = lent_kept f.result _ _ _ e c.if-fault-ne0.true }
+    let e = c.in_err-new_fault.field-0.0 in
+    let is : c.from_residual.result ≡ Err e = search rules in
+    let fault = later a.log.now a.used a.r (omega arith) _ c.in_err-new_fault.ensures (number_some e) in
+    record { result_value = rw is (answer_handed e _ _ fault); log_after = lent_kept _ _ _ _ fault (number_some e) }
 
-pub returns-then-log-at : goal.returns-then-log-at
-returns-then-log-at c =
-    let f = c.new_fault-fault in
+pub returns-then-log-end : goal.returns-then-log-end
+returns-then-log-end c =
     let a = c.args in
     let lent = a.log.now in
-    let e = full lent a.used a.r (omega arith) (sym c.if-fault-ne0.false ∙ f.ensures) (omega (arith, place lent a.used (omega arith))) in
+    let e = full lent a.used a.r (omega arith) c.in_ok-new_fault.ensures (omega (arith, place lent a.used (omega arith))) in
     record { result_value = answer_refused 15 _ _ e (suc-ne-zero 14); log_after = lent_kept 15 _ _ _ e (suc-ne-zero 14) }
 
-pub put_record-requires : goal.put_record-requires
-put_record-requires c =
+pub put_record-requires-clause-cut_bound : goal.put_record-requires-clause-cut_bound
+put_record-requires-clause-cut_bound c =
     let a = c.args in
-    record { record_long_in_bounds = omega arith; cut_bound = small (take a.used a.log.now) a.r (or_none _ _ (sym (sym c.if-fault-ne0.false ∙ c.new_fault-fault.ensures))).1 }
+    small (take a.used a.log.now) a.r (or_none _ _ (sym c.in_ok-new_fault.ensures)).1
 
 pub returns : goal.returns
 returns c =
     let a = c.args in
     let lent = a.log.now in
+    let begin = a.used / record_long * record_long in
     let at = place lent a.used (omega arith) in
-    let none = room lent a.used a.r (omega arith) (sym c.if-fault-ne0.false ∙ c.new_fault-fault.ensures) (omega (arith, at)) in record { result_value = answer_given _ _ _ none (ap (λ (n : ℕ). n + record_long) at); log_after = c.put_record.ensures ∙ ap (λ (n : ℕ). overwritten n (record_bytes a.r) lent) at ∙ lent_written _ _ _ none }
+    let none = room lent a.used a.r (omega arith) c.in_ok-new_fault.ensures (omega (arith, at)) in
+    let put = part_put begin (begin + record_long - begin) c.put_record.new.bytes lent (omega (arith, ap length c.put_record.ensures, record_long_lem a.r)) in
+    let same : overwritten begin c.put_record.new.bytes lent ≡ overwritten (whole_long (take a.used lent)) (record_bytes a.r) lent = rw (at, c.put_record.ensures) in
+    record { result_value = answer_given _ _ _ none (ap (λ (n : ℕ). n + record_long) at); log_after = put ∙ same ∙ lent_written _ _ _ none }

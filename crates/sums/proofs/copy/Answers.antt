@@ -10,11 +10,11 @@ loop-k-init g c = front_none _ _
 pub loop-k-preserved : goal.loop-k-preserved
 loop-k-preserved g c =
     let each = g.met.S.Sample.each in
-    front_sample each c.loop-k.invariant _ (omega (arith, c.lesser-n.ensures))
-    (value_read each c.args.from.now c.loop-k.k _ (omega (arith, c.lesser-n.ensures)) (search rules))
+    front_sample each c.loop-k.invariant _ (omega (arith, c.min-n.ensures))
+    (value_read each c.args.from.now c.loop-k.k _ (omega (arith, c.min-n.ensures)) (search rules))
 
 pub returns : goal.returns
 returns g c =
     let s = c.args in
     let as_long = length_values g.met.S.Sample.each in
-    copy_done _ _ c.lesser-n.result (rw (as_long s.to.now, as_long s.from.now) c.lesser-n.ensures) c.loop-k.k _ c.loop-k.invariant (omega arith)
+    copy_done _ _ c.min-n.result (rw (as_long s.to.now, as_long s.from.now) c.min-n.ensures) c.loop-k.k _ c.loop-k.invariant (omega arith)

@@ -1,57 +1,48 @@
--- `standard::threshold` meets its contract: a count of 0, a short list and one too long are refused, and else the mean is multiplied by 1.0 − 0.7 as the float literals give it. Assumes nothing.
+-- `standard::threshold` meets its contract: the mean of the part is that of the first costs, and it is multiplied by 1.0 − 0.7 as the float literals
+-- give it. Assumes nothing.
 use mathlib.Core.Path.{◌≡◌, refl, sym, ap, ap₂, ◌∙◌}
-use mathlib.Core.Bool.{◌&&◌, and-false}
-use Prim.Native.Nat.{ℕ, ◌≤◌, ◌<◌, ◌^◌}
-use native.Mathlib.Decide.{dec_lt}
+use mathlib.Core.Bool.{Bool, false, ◌&&◌}
+use mathlib.Core.List.{List}
+use Prim.Native.Nat.{ℕ, ◌≤◌, ◌^◌}
 use native.Mathlib.Omega.{arith}
-use borrow.Author.Tests.{lt-leb, le-leb, lt-ltb, le-ltb}
+use borrow.Author.Tests.{le-leb, ltb-false}
 use lib.Dec.{leb, ltb}
 use lib.Ieee.{binary64, of_bits, round, mul, sub}
-use Rattle.answer.proofs.Laws.{or_given, or_later, test_given, test_first, test_passed, test_later, answer_given, answer_refused}
+use lib.ListN.{length, get_or, take}
+use Rattle.std.proofs.Common.{length-take-le}
+use lib.Seq.{get_or-take}
+use Rattle.answer.proofs.Laws.{or_none, passed, answer_given}
+use Rattle.answer.specs.Refusal.{refusal, ◌or_else◌}
 use Rattle.plane.specs.Blocks.{block_fault}
-use Rattle.plane.proofs.BlockLaws.{block_passes}
 use Rattle.sums.specs.Quotient.{quotient_of}
-use Rattle.intra.specs.Threshold.{one_f, bias, threshold_fault}
+use Rattle.sums.specs.Sums.{sum_below}
+use Rattle.sums.proofs.SumLaws.{sum_ext}
+use Rattle.intra.specs.Threshold.{one_f, bias, cost_sum, threshold_fault}
 use Rattle.intra.proofs.standard.threshold.Goals as goal
 
--- the refusals, of a list with n costs
-module _ (n count : ℕ) where
-  -- 19, which is of a count that 1 lets in
-  empty : (r : ℕ) → r ≡ block_fault count → (r ≡ 0 → ⊥) → r ≡ threshold_fault n count
-  unfolding threshold_fault
-  empty r e h =
-      test_later 1 r _ (leb count n && ltb (2 ^ 32) count) (rw (le-ltb (2 ^ 32) count (few (dec_lt 0 count))) (and-false (leb count n))) (or_given r _ _ e h)
-    where
-      few : Dec (0 < count) → count ≤ 2 ^ 32
-      few (yes l) = absurd (h (e ∙ sym (block_passes count l)))
-      few (no m) = omega arith
+-- what is known of a count that is not refused
+counted : (n count : ℕ) → threshold_fault n count ≡ 0 → (count ≤ n) × (count ≤ 2 ^ 32)
+unfolding threshold_fault
+counted n count e =
+    let t = or_none (refusal 1 (leb count n && ltb (2 ^ 32) count)) (block_fault count or_else refusal 4 (ltb n count)) e in
+    let some : count ≤ n = ltb-false n count (passed 3 _ (or_none (block_fault count) (refusal 4 (ltb n count)) t.1).1) in
+    let few : leb count n && ltb (2 ^ 32) count ≡ false = passed 0 _ t.0 in
+    (some, ltb-false (2 ^ 32) count (sym (ap (λ (b : Bool). b && ltb (2 ^ 32) count) (le-leb count n some)) ∙ few))
 
-  module _ (some : 0 ≡ block_fault count) where
-    short : n < count → 4 ≡ threshold_fault n count
-    unfolding threshold_fault
-    short h = test_later 1 4 _ (leb count n && ltb (2 ^ 32) count) (rw (lt-leb count n h)) (or_later 4 _ _ some (test_given 4 (ltb n count) (lt-ltb n count h)))
+-- the sum of a part is that of the first costs
+part_sum : (costs : List ℕ) (count : ℕ) → count ≤ length costs → cost_sum (take count costs) (length (take count costs)) ≡ cost_sum costs count
+unfolding cost_sum
+part_sum costs count h =
+    ap (λ (n : ℕ). sum_below n (λ (k : ℕ). get_or (take count costs) k 0)) (length-take-le count costs h)
+    ∙ sum_ext count _ _ (λ k k<. get_or-take count costs k 0 k<)
 
-    none : count ≤ n → count ≤ 2 ^ 32 → 0 ≡ threshold_fault n count
-    unfolding threshold_fault
-    none h k =
-        test_later 1 0 _ (leb count n && ltb (2 ^ 32) count) (rw (le-leb count n h, le-ltb (2 ^ 32) count k))
-        (or_later 0 _ _ some (test_passed 4 (ltb n count) (le-ltb n count h)))
+pub slice_bounds-cost_sum-end : goal.slice_bounds-cost_sum-end
+slice_bounds-cost_sum-end c = sym (length-take-le _ _ (counted _ _ (sym c.in_ok-threshold_fault.ensures)).0)
 
-  many : count ≤ n → 2 ^ 32 < count → 1 ≡ threshold_fault n count
-  unfolding threshold_fault
-  many h k = test_first 0 _ (leb count n && ltb (2 ^ 32) count) (rw (le-leb count n h, lt-ltb (2 ^ 32) count k))
-
-pub returns-then-none-ne0 : goal.returns-then-none-ne0
-returns-then-none-ne0 c = answer_refused _ _ _ (empty _ _ _ c.block_fault-none.ensures c.if-none-ne0.true) c.if-none-ne0.true
-
-pub returns-then-costs-count : goal.returns-then-costs-count
-returns-then-costs-count c =
-    -- past the first test there is a cost
-    let some : 0 ≡ block_fault c.args.count = sym c.if-none-ne0.false ∙ c.block_fault-none.ensures in
-    answer_refused 4 _ _ (short _ _ some c.if-costs-count.true) (λ e. omega arith)
-
-pub returns-then-count-gt-MOST : goal.returns-then-count-gt-MOST
-returns-then-count-gt-MOST c = answer_refused 1 _ _ (many _ _ c.if-costs-count.false c.if-count-gt-MOST.true) (λ e. omega arith)
+pub cost_sum-requires : goal.cost_sum-requires
+cost_sum-requires c =
+    let known = counted (length c.args.costs.now) c.args.count (sym c.in_ok-threshold_fault.ensures) in
+    omega (arith, length-take-le c.args.count c.args.costs.now known.0, known.1)
 
 -- the literals are the definition's numbers
 one_is : of_bits binary64 4607182418800017408 ≡ one_f
@@ -64,8 +55,7 @@ bias-is = refl
 
 pub returns : goal.returns
 returns c =
-    let some : 0 ≡ block_fault c.args.count = sym c.if-none-ne0.false ∙ c.block_fault-none.ensures in
     let s = c.args in
-    let mean = c.quotient.ensures ∙ ap (λ (n : ℕ). quotient_of n s.count) c.cost_sum.ensures in
-    answer_given _ _ _ (none _ _ some c.if-costs-count.false c.if-count-gt-MOST.false)
-    (ap₂ (mul binary64) mean (ap₂ (sub binary64) one_is bias-is))
+    let none = c.in_ok-threshold_fault.ensures in
+    let sum = c.cost_sum.ensures ∙ part_sum s.costs.now s.count (counted _ _ (sym none)).0 in
+    answer_given _ _ _ none (ap₂ (mul binary64) (c.quotient.ensures ∙ ap (λ (n : ℕ). quotient_of n s.count) sum) (ap₂ (sub binary64) one_is bias-is))

@@ -1,6 +1,4 @@
 -- `plane::any_large` meets its contract: planes of which the shapes are not refused are not refused alone. Assumes nothing.
-use Rattle.answer.proofs.Laws.{or_none}
-use Rattle.plane.specs.Planes.{sizes_fault}
 use Rattle.plane.proofs.SampleLaws.{by_shapes, each_passes}
 use Rattle.plane.proofs.samples.any_large.Goals as goal
 

@@ -1,6 +1,7 @@
 -- `plane::bits_of` meets its contract: after x turns the bits are those of the first x samples. Assumes nothing.
-use mathlib.Core.Path.{ap}
-use Prim.Native.Nat.{◌^◌}
+use mathlib.Core.Path.{ap, ◌∙◌}
+use Prim.Native.Nat.{◌+◌, ◌^◌}
+use native.Mathlib.Nat.{zero-mod}
 use native.Mathlib.Omega.{arith}
 use lib.Dec.{leb}
 use Rattle.plane.proofs.SampleLaws.{reach_none, reach_more, reach_to}
@@ -9,7 +10,7 @@ use Rattle.plane.proofs.samples.bits_of.Goals as goal
 use Rattle.sums.proofs.SampleLaws.{length_values, value_read}
 
 pub loop-x-init : goal.loop-x-init
-loop-x-init g c = rw c.narrowed-bits.ensures (reach_none _)
+loop-x-init g c = rw (c.narrowed-bits.ensures.is ∙ zero-mod (g.S.Sample.most + 1)) (reach_none _)
 
 pub loop-x-preserved : goal.loop-x-preserved
 loop-x-preserved g c =

@@ -2,6 +2,7 @@
 -- word does. Assumes nothing.
 use mathlib.Core.Path.{◌≡◌, sym, ap, ◌∙◌}
 use Prim.Native.Nat.{◌+◌, ◌-◌}
+use native.Mathlib.Nat.{zero-mod}
 use native.Mathlib.Omega.{arith}
 use Rattle.plane.specs.Planes.{row_large}
 use Rattle.plane.proofs.SampleLaws.{reach_none, reach_more, reach_to, rows_past}
@@ -17,7 +18,7 @@ pub loop-y-init : goal.loop-y-init
 loop-y-init g c =
     let s = c.args in
     let test = large s.p (g.S.Sample.values s.s.now) s.from in
-    (omega arith, omega arith, reach_to test _ 0 _ (rw c.narrowed-bits.ensures (reach_none test)) (omega arith))
+    (omega arith, omega arith, reach_to test _ 0 _ (rw (c.narrowed-bits.ensures.is ∙ zero-mod (g.S.Sample.most + 1)) (reach_none test)) (omega arith))
 
 pub loop-y-preserved : goal.loop-y-preserved
 loop-y-preserved g c =

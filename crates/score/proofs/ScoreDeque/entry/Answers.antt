@@ -1,27 +1,13 @@
--- `entry` meets its contract: below the count a slot is an entry, and past it 0 over 0 gives the NaNs of no score.
--- Assumes nothing.
-use mathlib.Core.Path.{◌≡◌, refl, ◌∙◌, sym}
-use lib.ListN.{length, get_or-eq_default}
-use lib.Seq.{get_or-take}
-use lib.Ieee.{nan, binary64, of_bits, div}
-use Rattle.settings.specs.Settings.{room}
-use Rattle.score.specs.Deque.{content, no_score}
-use Rattle.score.specs.Scores.{zero_f}
-use Rattle.score.proofs.Room.{roomy, long_min}
+-- `entry` meets its contract: past the entries the library's NaN stands for each number of no score. Assumes nothing.
+use mathlib.Core.Path.{◌≡◌, refl, ◌∙◌}
+use lib.Ieee.{nan, binary64, of_bits}
+use Rattle.score.specs.Deque.{no_score}
 use native.Mathlib.Omega.{arith}
 use Rattle.score.proofs.ScoreDeque.entry.Goals as goal
 
-nothing : div binary64 zero_f zero_f ≡ nan
-unfolding div of_bits
-nothing = refl
+is_nan : of_bits binary64 9221120237041090560 ≡ nan
+unfolding of_bits
+is_nan = refl
 
-pub returns-then-i-count : goal.returns-then-i-count
-returns-then-i-count c =
-    let d = c.args.self in
-    sym (get_or-take d.count d.entries c.args.i no_score (omega (arith, c.lesser-count.ensures)))
-
-pub returns : goal.returns
-returns c =
-    let d = c.args.self in
-    let r : length d.entries ≡ room = roomy d _ c.well_formed.0 in
-    c.new.ensures ∙ rw nothing (sym (get_or-eq_default (content d) no_score (omega (arith, long_min d r, c.lesser-count.ensures))))
+pub returns-in-None : goal.returns-in-None
+returns-in-None c = c.new.ensures ∙ rw (is_nan, ← c.scores.ensures) (c.in-None.ensures.lookup.4 (omega arith) no_score)

@@ -1,12 +1,15 @@
--- `any_forbidden_entry` meets its contract: it is the search from entry 0 on.
+-- `any_forbidden_entry` meets its contract: what the library's `any` answers is the search.
 -- Assumes nothing.
+use mathlib.Core.Path.{◌∙◌}
+use Rattle.std.proofs.Common.{rules, tests}
+use Rattle.std.proofs.lemmas.Iterator.{YieldsList-from_slice}
+use Rattle.std.proofs.lemmas.Iterator.Search.{any_from_yields_List}
+use Rattle.score.specs.Costs.{forbidden_entry}
 use Rattle.score.specs.Deque.{content}
-use Rattle.score.proofs.Room.{entries_of_lem}
+use Rattle.score.proofs.Counts.{any_is}
 use Rattle.score.proofs.decision.any_forbidden_entry.Goals as goal
-
-pub any_asked-requires : goal.any_asked-requires
-any_asked-requires c = c.within-e.ensures.1
 
 pub returns : goal.returns
 returns c =
-    rw (← entries_of_lem c.within-e.result (content c.args.d) c.within-e.ensures.0) c.any_asked.ensures
+    any_from_yields_List forbidden_entry _ _ _ c.any.ensures.ran (YieldsList-from_slice (content c.args.d) cc) (λ x b q k. search (rules, tests))
+    ∙ any_is forbidden_entry (content c.args.d)
