@@ -6,12 +6,12 @@ ghost use Rattle.std.specs.Prelude.{true, ◌||◌, ◌≡◌, ◌*◌, ◌^◌,
 ghost use Rattle.answer.specs.Answer.{answered, answer_of};
 ghost use Rattle.answer.specs.Refusal.{refusal};
 ghost use Rattle.plane.specs.Blocks.{blocks_down};
-ghost use Rattle.plane.specs.Planes.{suits, sizes_fault, rows_large, too_large};
+ghost use Rattle.plane.specs.Planes.{suits, rows_large, too_large};
 ghost use Rattle.importance.specs.Needs.{SmallBlocks};
 ghost use Rattle.importance.specs.Importance.{blocks_difference, importance_total, total_of, importance_of};
 
 use answer::Refusal;
-use plane::{BLOCK_SIDE, Plane};
+use plane::{BLOCK_SIDE, Pair, Plane};
 
 mod block;
 mod byte;
@@ -20,65 +20,50 @@ mod word;
 pub use block::BlockMean;
 
 // The differences of row y of blocks. Each mean is rounded by itself: the mean of the differences is another number.
-fn blocks_difference<S: BlockMean>(p: Plane, a: &[S], q: Plane, b: &[S], y: usize) -> u64
-    requires b_value { sizes_fault p (length (S.Sample.values a.now)) q (length (S.Sample.values b.now)) ≡ 0 }
-    requires y_bound { y < blocks_down p }
-    requires small_blocks { SmallBlocks p (S.Sample.values a.now) y × SmallBlocks q (S.Sample.values b.now) y }
-    ensures is { result ≡ blocks_difference p (S.Sample.values a.now) q (S.Sample.values b.now) y }
+fn blocks_difference<S: BlockMean>(pair: &Pair<S>, y: usize) -> u64
+    requires y_bound { y < blocks_down pair.now.p }
+    requires small_blocks { SmallBlocks pair.now.p (S.Sample.values pair.now.a.now) y × SmallBlocks pair.now.q (S.Sample.values pair.now.b.now) y }
+    ensures is { result ≡ blocks_difference pair.now.p (S.Sample.values pair.now.a.now) pair.now.q (S.Sample.values pair.now.b.now) y }
     ensures at_most { result ≤ 2 ^ 26 }
 {
-    let step = p.stride;
-    let step2 = q.stride;
-    let start = p.block_row(a.len(), y);
-    let start2 = q.block_row(b.len(), y);
+    let step = pair.p.stride;
+    let step2 = pair.q.stride;
+    let start = pair.p.block_row(pair.a.len(), y);
+    let start2 = pair.q.block_row(pair.b.len(), y);
     let mut total: u64 = 0;
-    for x in 0..p.width / BLOCK_SIDE {
-        let org = S::block_mean(a, start + x * BLOCK_SIDE, step);
-        let other = S::block_mean(b, start2 + x * BLOCK_SIDE, step2);
+    for x in 0..pair.p.width / BLOCK_SIDE {
+        let org = S::block_mean(pair.a, start + x * BLOCK_SIDE, step);
+        let other = S::block_mean(pair.b, start2 + x * BLOCK_SIDE, step2);
         total += org.abs_diff(other) as u64;
     }
     total
 }
 
 // Whether one of the rows from one up to another, of either plane, has a sample that reaches 2 to the depth.
-fn any_large<S: BlockMean>(
-    depth: u64,
-    p: Plane,
-    a: &[S],
-    q: Plane,
-    b: &[S],
-    from: usize,
-    to: usize,
-) -> bool
-    ensures { result ≡ rows_large depth p (S.Sample.values a.now) from to || rows_large depth q (S.Sample.values b.now) from to }
+fn any_large<S: BlockMean>(depth: u64, pair: &Pair<S>, from: usize, to: usize) -> bool
+    ensures { result ≡ rows_large depth pair.now.p (S.Sample.values pair.now.a.now) from to || rows_large depth pair.now.q (S.Sample.values pair.now.b.now) from to }
 {
-    plane::rows_large(depth, p, a, from, to) | plane::rows_large(depth, q, b, from, to)
+    plane::rows_large(depth, pair.p, pair.a, from, to)
+        | plane::rows_large(depth, pair.q, pair.b, from, to)
 }
 
 // The differences of all whole blocks of two planes of one size, or 16 where a sample is too large. The samples of a row of
 // blocks are looked at just before they are summed; those below the last whole block come last.
-fn all_differences<S: BlockMean>(
-    depth: u64,
-    p: Plane,
-    a: &[S],
-    q: Plane,
-    b: &[S],
-) -> Result<u64, Refusal>
-    requires b_value { sizes_fault p (length (S.Sample.values a.now)) q (length (S.Sample.values b.now)) ≡ 0 }
-    requires depth_value { suits S.Depths.word depth ≡ true }
-    ensures { answer_of result ≡ answered (refusal 16 (too_large depth p (S.Sample.values a.now) || too_large depth q (S.Sample.values b.now))) (importance_total p (S.Sample.values a.now) q (S.Sample.values b.now)) }
+fn all_differences<S: BlockMean>(depth: u64, pair: &Pair<S>) -> Result<u64, Refusal>
+    requires { suits S.Depths.word depth ≡ true }
+    ensures { answer_of result ≡ answered (refusal 16 (too_large depth pair.now.p (S.Sample.values pair.now.a.now) || too_large depth pair.now.q (S.Sample.values pair.now.b.now))) (importance_total pair.now.p (S.Sample.values pair.now.a.now) pair.now.q (S.Sample.values pair.now.b.now)) }
 {
-    let height = p.height;
+    let height = pair.p.height;
     let mut total: u64 = 0;
     for y in 0..height / BLOCK_SIDE {
         let from = y * BLOCK_SIDE;
-        if any_large(depth, p, a, q, b, from, from + BLOCK_SIDE) {
+        if any_large(depth, pair, from, from + BLOCK_SIDE) {
             return Err(Refusal::TooLarge);
         }
-        total += blocks_difference(p, a, q, b, y);
+        total += blocks_difference(pair, y);
     }
     let done = (height / BLOCK_SIDE) * BLOCK_SIDE;
-    if any_large(depth, p, a, q, b, done, height) {
+    if any_large(depth, pair, done, height) {
         return Err(Refusal::TooLarge);
     }
     Ok(total)
@@ -97,7 +82,7 @@ pub fn importance_total<S: BlockMean>(
 {
     plane::shapes_fault::<S>(depth, p, a.len(), q, b.len())?;
     plane::block_fault((p.height / BLOCK_SIDE) * (p.width / BLOCK_SIDE))?;
-    all_differences(depth, p, a, q, b)
+    all_differences(depth, &Pair { p, a, q, b })
 }
 
 // The importance of two planes: the total over the number of blocks. It asks for the total as a caller does: so the compiler has one

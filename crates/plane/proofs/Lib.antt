@@ -1,4 +1,5 @@
 pub mod PlaneLaws
+pub mod PairLaws
 pub mod SampleLaws
 pub mod BlockLaws
 pub mod SquareLaws

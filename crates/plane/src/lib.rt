@@ -11,9 +11,11 @@ use answer::Refusal;
 use sums::Sample;
 
 mod depths;
+mod pair;
 mod samples;
 
 pub use depths::Depths;
+pub use pair::Pair;
 pub use samples::{pair_fault, reaches, rows_large, sample_fault};
 
 // The largest side, of a plane as of a resolution.

@@ -1,14 +1,14 @@
 // The plane difference: `sad_plane` of data/sad/rust.rs, and delta, as `delta_in_planes` of analyze/fast.rs has it.
 #![tactic(auto)]
 
-ghost use Rattle.std.specs.Prelude.{true, ◌||◌, ◌≡◌, length};
+ghost use Rattle.std.specs.Prelude.{true, ◌||◌, ◌≡◌};
 ghost use Rattle.answer.specs.Answer.{answered, answer_of};
 ghost use Rattle.answer.specs.Refusal.{refusal};
-ghost use Rattle.plane.specs.Planes.{suits, sizes_fault, too_large};
+ghost use Rattle.plane.specs.Planes.{suits, too_large};
 ghost use Rattle.sad.specs.Difference.{plane_sad, difference_of, delta_of};
 
 use answer::Refusal;
-use plane::Plane;
+use plane::{Pair, Plane};
 
 mod byte;
 mod row;
@@ -16,16 +16,15 @@ mod word;
 
 pub use row::{Row, RowSad};
 
-// The sum over the visible samples of two planes whose shapes are not refused, or 16 where a sample is too large.
-fn sad_plane<S: RowSad>(depth: u64, p: Plane, a: &[S], q: Plane, b: &[S]) -> Result<u64, Refusal>
-    requires depth_value { suits S.Depths.word depth ≡ true }
-    requires sizes { sizes_fault p (length (S.Sample.values a.now)) q (length (S.Sample.values b.now)) ≡ 0 }
-    ensures { answer_of result ≡ answered (refusal 16 (too_large depth p (S.Sample.values a.now) || too_large depth q (S.Sample.values b.now))) (plane_sad p (S.Sample.values a.now) q (S.Sample.values b.now)) }
+// The sum over the visible samples of two planes, or 16 where a sample is too large.
+fn sad_plane<S: RowSad>(depth: u64, pair: &Pair<S>) -> Result<u64, Refusal>
+    requires { suits S.Depths.word depth ≡ true }
+    ensures { answer_of result ≡ answered (refusal 16 (too_large depth pair.now.p (S.Sample.values pair.now.a.now) || too_large depth pair.now.q (S.Sample.values pair.now.b.now))) (plane_sad pair.now.p (S.Sample.values pair.now.a.now) pair.now.q (S.Sample.values pair.now.b.now)) }
 {
     let mut total: u64 = 0;
     let mut bits: u16 = 0;
-    for y in 0..p.height {
-        let row = S::row_sad(p.row(a, y), q.row(b, y));
+    for y in 0..pair.p.height {
+        let row = S::row_sad(pair.p.row(pair.a, y), pair.q.row(pair.b, y));
         total += row.sum as u64;
         bits |= row.bits;
     }
@@ -46,7 +45,7 @@ pub fn plane_difference<S: RowSad>(
     ensures { answer_of result ≡ difference_of S.Depths.word depth p (S.Sample.values a.now) q (S.Sample.values b.now) }
 {
     plane::shapes_fault::<S>(depth, p, a.len(), q, b.len())?;
-    sad_plane(depth, p, a, q, b)
+    sad_plane(depth, &Pair { p, a, q, b })
 }
 
 // The plane difference over width × height, in a float.

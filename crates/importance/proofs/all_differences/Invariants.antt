@@ -3,4 +3,4 @@ use Rattle.importance.proofs.RowLooks.{LookSum}
 use Rattle.importance.proofs.all_differences.Given as goal
 
 abbrev pub invariant-loop-y : goal.invariant-loop-y
-invariant-loop-y g l = let values = g.S.Sample.values in LookSum l.depth l.p (values l.a) l.q (values l.b) l.total l.y
+invariant-loop-y g l = let values = g.S.Sample.values in LookSum l.depth l.pair.p (values l.pair.a.now) l.pair.q (values l.pair.b.now) l.total l.y

@@ -38,9 +38,7 @@ returns-in_err-block_fault g c =
 pub all_differences-requires : goal.all_differences-requires
 all_differences-requires g c =
     let s = c.args in
-    let as_long = length_values g.met.S.Sample.each in
-    let shapes = by_shapes g.S.Depths.word s.depth s.p _ s.q _ (sym c.in_ok-shapes_fault.ensures) in
-    rw (as_long s.a.now, as_long s.b.now) (record { b_value = shapes.1; depth_value = suited g.S.Depths.word s.depth shapes.0 })
+    suited g.S.Depths.word s.depth (by_shapes g.S.Depths.word s.depth s.p _ s.q _ (sym c.in_ok-shapes_fault.ensures)).0
 
 pub returns : goal.returns
 returns g c =
@@ -49,3 +47,8 @@ returns g c =
     let as_long = length_values g.met.S.Sample.each in
     shapes_passed s.depth s.p _ s.q _ word _ _
     (blocks_next word s.depth s.p _ s.q _ _ (rw (as_long s.a.now, as_long s.b.now) c.in_ok-shapes_fault.ensures) c.in_ok-block_fault.ensures) c.all_differences.ensures
+
+pub invariant_of-all_differences : goal.invariant_of-all_differences
+invariant_of-all_differences g c =
+    let s = c.args in
+    record { one_size = (by_shapes g.S.Depths.word s.depth s.p _ s.q _ (sym c.in_ok-shapes_fault.ensures)).1 }

@@ -19,9 +19,12 @@ returns-in_err-shapes_fault g c =
 pub sad_plane-requires : goal.sad_plane-requires
 sad_plane-requires g c =
     let s = c.args in
-    let as_long = length_values g.met.S.Sample.each in
-    let shapes = by_shapes g.S.Depths.word s.depth s.p _ s.q _ (sym c.in_ok-shapes_fault.ensures) in
-    rw (as_long s.a.now, as_long s.b.now) (record { depth_value = suited g.S.Depths.word s.depth shapes.0; sizes = shapes.1 })
+    suited g.S.Depths.word s.depth (by_shapes g.S.Depths.word s.depth s.p _ s.q _ (sym c.in_ok-shapes_fault.ensures)).0
+
+pub invariant_of-sad_plane : goal.invariant_of-sad_plane
+invariant_of-sad_plane g c =
+    let s = c.args in
+    record { one_size = (by_shapes g.S.Depths.word s.depth s.p _ s.q _ (sym c.in_ok-shapes_fault.ensures)).1 }
 
 pub returns : goal.returns
 returns g c =

@@ -11,5 +11,5 @@ use Rattle.sad.proofs.sad_plane.Given as goal
 abbrev pub invariant-loop-y : goal.invariant-loop-y
 invariant-loop-y g l =
     let values = g.S.Sample.values in
-    (l.y ≤ l.p.height) × (l.total ≤ l.y * 2 ^ 32) × (l.total ≡ sum_below l.y (row_sad l.p (values l.a) l.q (values l.b)))
-    × (leb (2 ^ l.depth) l.bits ≡ any_below l.y (large_rows l.p (values l.a) l.q (values l.b) l.depth))
+    (l.y ≤ l.pair.p.height) × (l.total ≤ l.y * 2 ^ 32) × (l.total ≡ sum_below l.y (row_sad l.pair.p (values l.pair.a.now) l.pair.q (values l.pair.b.now)))
+    × (leb (2 ^ l.depth) l.bits ≡ any_below l.y (large_rows l.pair.p (values l.pair.a.now) l.pair.q (values l.pair.b.now) l.depth))
