@@ -1,9 +1,6 @@
 pub mod Numbers
 pub mod Measures
-pub mod Unique
 pub mod Histories
 pub mod Contracts
-pub mod DeepUnique
-pub mod SensorUnique
 pub mod Quotients
 pub mod Promised

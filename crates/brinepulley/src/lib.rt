@@ -185,6 +185,9 @@ pub fn brine_hadamard8x8(list: &mut [i32]) -> i64
 pub fn brine_satd8x8<S: Sample>(first: &[S], second: &[S]) -> i64
     ensures { result ≡ coded (satd_of (S.values first.now) (S.values second.now)) }
 {
+    // No sample is above the largest, so the sum fits the answer.
+    S::bounded(first);
+    S::bounded(second);
     code::whole(satd::satd8x8(first, second))
 }
 

@@ -4,21 +4,18 @@ use native.Mathlib.Omega.{arith}
 use borrow.Author.Rules.{sfits_of}
 use mir.Syntax.{w64}
 use mir.Facts.{to_z-of_z}
-use Rattle.plane.specs.declared.Plane.{Plane}
-use Rattle.plane.specs.Planes.{byte}
-use Rattle.sums.specs.Needs.{byte_most}
 use Rattle.brinepulley.specs.Coded.{coded, plane_by}
 use Rattle.brinepulley.proofs.Measures.{total_small}
 use Rattle.brinepulley.proofs.brine_importance_total.Goals as goal
 
 pub whole-requires : goal.whole-requires
-whole-requires c =
+whole-requires g c =
+    let values = g.S.Sample.values in
     let s = c.args in
-    let p : Plane = plane_by s.width s.height s.stride s.origin in
-    let q : Plane = plane_by s.width2 s.height2 s.stride2 s.origin2 in
-    rw c.importance_total.ensures
-    (total_small byte_most (omega arith) s.first.now s.second.now
-    (λ i. omega (arith, c.shared_slice_known-1.given i)) (λ i. omega (arith, c.shared_slice_known-2-1.given i)) byte s.depth p q)
+    rw (c.importance_total.ensures, c.plane_by-p.ensures, c.plane_by-q.ensures)
+    (total_small g.S.Sample.most (omega (arith, g.met.S.Sample.narrow)) (values s.first.now) (values s.second.now) c.bounded.ensures c.bounded-2.ensures
+    g.S.Depths.word s.depth (plane_by s.width s.height s.stride s.origin) (plane_by s.width2 s.height2 s.stride2 s.origin2))
 
 pub returns : goal.returns
-returns c = to_z-of_z {w = w64} (sfits_of c.whole.type_inv) ∙ c.whole.ensures ∙ ap coded c.importance_total.ensures
+returns g c =
+    to_z-of_z {w = w64} (sfits_of c.whole.type_inv) ∙ c.whole.ensures ∙ ap coded (rw (← c.plane_by-p.ensures, ← c.plane_by-q.ensures) c.importance_total.ensures)
