@@ -1,54 +1,66 @@
 // The i64 that a C function returns: a number at or above 0, or a refusal's number negated.
 ghost use Rattle.std.specs.Prelude.{◌≡◌, pos, neg_ℤ};
-ghost use Rattle.answer.specs.Answer.{whole_answer, real_answer};
+ghost use Rattle.answer.specs.Answer.{answer_of, fault_in};
+ghost use Rattle.answer.specs.Refusal.{number_of};
 ghost use Rattle.detector.specs.Step.{step_answer};
-ghost use Rattle.brinepulley.specs.Coded.{coded, status, held_after, decided};
+ghost use Rattle.brinepulley.specs.Coded.{coded, done, status, held_after, decided};
 ghost use Rattle.brinepulley.specs.Needs.{Codable};
 
-use answer::{Real, Whole};
-use detector::{Decision, StepAnswer};
+use answer::Refusal;
+use detector::Decision;
 
-// A refusal's number, negated; 0 for none.
-pub fn negated(fault: u32) -> i64
-    ensures { result ≡ neg_ℤ (pos fault) }
+// A refusal's number, negated.
+pub fn negated(refusal: Refusal) -> i64
+    ensures { result ≡ neg_ℤ (pos (number_of refusal)) }
 {
-    0 - (fault as i64)
+    0 - (refusal.number() as i64)
+}
+
+// 0, or the refusal negated.
+#[tactic(auto, using(crate::proofs::Numbers::dones))]
+pub fn done(outcome: Result<(), Refusal>) -> i64
+    ensures { result ≡ coded (done (fault_in outcome)) }
+{
+    match outcome {
+        Ok(()) => 0,
+        Err(refusal) => negated(refusal),
+    }
 }
 
 // A whole number as it is, or the refusal negated.
-pub fn whole(answer: Whole) -> i64
-    requires { Codable (whole_answer answer) }
-    ensures { result ≡ coded (whole_answer answer) }
+pub fn whole(answer: Result<u64, Refusal>) -> i64
+    requires { Codable (answer_of answer) }
+    ensures { result ≡ coded (answer_of answer) }
 {
     match answer {
-        Whole::Number(n) => n as i64,
-        Whole::Refused(fault) => negated(fault),
+        Ok(n) => n as i64,
+        Err(refusal) => negated(refusal),
     }
 }
 
 // A float to its lent place, and 0; or the refusal negated, and the place as it was.
-pub fn put(answer: Real, place: &mut f64) -> i64
-    ensures value { result ≡ coded (status (real_answer answer)) }
-    ensures place_after { place.new ≡ held_after (real_answer answer) place.old }
+pub fn put(answer: Result<f64, Refusal>, place: &mut f64) -> i64
+    ensures value { result ≡ coded (status (answer_of answer)) }
+    ensures place_after { place.new ≡ held_after (answer_of answer) place.old }
 {
     match answer {
-        Real::Number(x) => {
+        Ok(x) => {
             *place = x;
             0
         }
-        Real::Refused(fault) => negated(fault),
+        Err(refused) => negated(refused),
     }
 }
 
 // A decision by its number, or the refusal negated.
-pub fn decision(answer: StepAnswer) -> i64
+pub fn decision(answer: Result<Decision, Refusal>) -> i64
     ensures { result ≡ coded (decided (step_answer answer)) }
 {
     match answer {
-        StepAnswer::Refused(fault) => negated(fault),
-        StepAnswer::Decided(d) => match d {
-            Decision::Bare(cut) => if cut { 1 } else { 0 },
-            Decision::Scored(cut, _score) => if cut { 3 } else { 2 },
+        Ok(d) => match d.score {
+            None => if d.cut { 1 } else { 0 },
+            Some(_) => if d.cut { 3 } else { 2 },
         },
+        Err(refusal) => negated(refusal),
     }
 }

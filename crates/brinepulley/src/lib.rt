@@ -18,6 +18,7 @@ ghost use Rattle.brinepulley.specs.Coded.{coded, done, status, held_after, decid
 
 use plane::Plane;
 use settings::Settings;
+use state::Call;
 
 pub mod card;
 mod code;
@@ -213,7 +214,7 @@ pub fn brine_hadamard4x4(list: &mut [i32]) -> i64
     ensures value { result ≡ coded (done (transform_fault 4 list.old)) }
     ensures list_after { list.new ≡ after_transform 4 list.old }
 {
-    code::negated(hadamard::hadamard4x4(list))
+    code::done(hadamard::hadamard4x4(list))
 }
 
 // The transform of eight rows of eight entries, in their place: 0.
@@ -221,7 +222,7 @@ pub fn brine_hadamard8x8(list: &mut [i32]) -> i64
     ensures value { result ≡ coded (done (transform_fault 8 list.old)) }
     ensures list_after { list.new ≡ after_transform 8 list.old }
 {
-    code::negated(hadamard::hadamard8x8(list))
+    code::done(hadamard::hadamard8x8(list))
 }
 
 // The SATD of two blocks of 64 samples.
@@ -257,7 +258,7 @@ pub fn brine_detector_fresh(
         min_key_frame_interval: min,
         max_key_frame_interval: max,
     };
-    code::negated(lent::fresh(g, numbers, scores))
+    code::done(lent::fresh(g, numbers, scores))
 }
 
 // The step of a detector in its lent places: what was decided, by its number. The places are as the decision leaves them.
@@ -275,15 +276,13 @@ pub fn brine_detector_step(
     ensures numbers_after { numbers.new ≡ numbers_after (lent_step numbers.old scores.old (call set_len frame previous_keyframe inter.now importance.now threshold.now)) numbers.old }
     ensures scores_after { scores.new ≡ scores_after (lent_step numbers.old scores.old (call set_len frame previous_keyframe inter.now importance.now threshold.now)) scores.old }
 {
-    let answer = lent::step(
-        numbers,
-        scores,
-        set_len,
-        frame,
-        previous_keyframe,
+    let c = Call {
+        length: set_len,
+        number: frame,
+        keyframe: previous_keyframe,
         inter,
         importance,
         threshold,
-    );
-    code::decision(answer)
+    };
+    code::decision(lent::step(numbers, scores, &c))
 }
