@@ -29,3 +29,9 @@ module _ (a : Answer ℕ) (n : ℕ) where
 pub done_coded : (fault : ℕ) → neg_ℤ (pos fault) ≡ coded (done fault)
 done_coded fault =
     answer_cases (λ (a : Answer ℕ). neg_ℤ (pos fault) ≡ coded a) fault 0 (λ e. ap (λ (n : ℕ). neg_ℤ (pos n)) e) (λ _. refl)
+
+-- .. and where nothing is refused, it is 0
+pub done_none : pos 0 ≡ coded (done 0)
+done_none = done_coded 0
+
+pub ruleset dones = (done_coded, done_none)

@@ -1,6 +1,5 @@
 -- Document 01, "Refusal numbers": what a C function returns. "each gives a whole number .., or the refusal number negated."
-use Rattle.std.specs.Prelude.{Bool, cond, ℕ, ℤ, pos, neg_ℤ, Float}
-use Rattle.std.proofs.Math.Option.{Option, none, some}
+use Rattle.std.specs.Prelude.{Bool, cond, ℕ, ℤ, pos, neg_ℤ, Float, Option, Some, None}
 use Rattle.answer.specs.Answer.{Answer, gives, refused, answered}
 use Rattle.plane.specs.declared.Plane.{Plane}
 use Rattle.score.specs.declared.ScenecutResult.{ScenecutResult}
@@ -40,8 +39,8 @@ importance_after (refused f) old = old
 
 -- a decision: "0 no cut and no score, 1 a cut without a score, 2 no cut with a score, 3 a cut with a score"
 abbrev decision : Bool → Option ScenecutResult → ℕ
-decision cut none = cond cut 1 0
-decision cut (some score) = cond cut 3 2
+decision cut None = cond cut 1 0
+decision cut (Some score) = cond cut 3 2
 
 abbrev pub decided : Answer Verdict → Answer ℕ
 decided (gives v) = gives (decision v.cut v.score)

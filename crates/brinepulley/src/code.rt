@@ -18,10 +18,11 @@ pub fn negated(refusal: Refusal) -> i64
 }
 
 // 0, or the refusal negated.
-pub fn done(answer: Result<(), Refusal>) -> i64
-    ensures { result ≡ coded (done (fault_in answer)) }
+#[tactic(auto, using(crate::proofs::Numbers::dones))]
+pub fn done(outcome: Result<(), Refusal>) -> i64
+    ensures { result ≡ coded (done (fault_in outcome)) }
 {
-    match answer {
+    match outcome {
         Ok(()) => 0,
         Err(refusal) => negated(refusal),
     }
@@ -43,12 +44,13 @@ pub fn put(answer: Result<f64, Refusal>, place: &mut f64) -> i64
     ensures value { result ≡ coded (status (answer_of answer)) }
     ensures place_after { place.new ≡ held_after (answer_of answer) place.old }
 {
-    let x = match answer {
-        Ok(x) => x,
-        Err(r) => return negated(r),
-    };
-    *place = x;
-    0
+    match answer {
+        Ok(x) => {
+            *place = x;
+            0
+        }
+        Err(refused) => negated(refused),
+    }
 }
 
 // A decision by its number, or the refusal negated.

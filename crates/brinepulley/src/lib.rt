@@ -19,6 +19,7 @@ use importance::BlockMean;
 use plane::Depths;
 use sad::RowSad;
 use settings::Settings;
+use state::Call;
 use sums::Sample;
 
 pub mod card;
@@ -235,15 +236,13 @@ pub fn brine_detector_step(
     ensures numbers_after { numbers.new ≡ numbers_after (lent_step numbers.old scores.old (call set_len frame previous_keyframe inter.now importance.now threshold.now)) numbers.old }
     ensures scores_after { scores.new ≡ scores_after (lent_step numbers.old scores.old (call set_len frame previous_keyframe inter.now importance.now threshold.now)) scores.old }
 {
-    let answer = lent::step(
-        numbers,
-        scores,
-        set_len,
-        frame,
-        previous_keyframe,
+    let c = Call {
+        length: set_len,
+        number: frame,
+        keyframe: previous_keyframe,
         inter,
         importance,
         threshold,
-    );
-    code::decision(answer)
+    };
+    code::decision(lent::step(numbers, scores, &c))
 }

@@ -1,6 +1,5 @@
 -- A table of values: what the definitions give, beside what document 01 says; and the test over the whole of it.
-use Rattle.std.specs.Prelude.{◌≡◌, List, [], ◌∷◌, Bool, true, ◌&&◌, cond, ℕ, ◌<◌, eqb, Float, length, get_or}
-use Rattle.std.proofs.Math.Option.{Option, none, some}
+use Rattle.std.specs.Prelude.{◌≡◌, List, [], ◌∷◌, Bool, true, ◌&&◌, cond, ℕ, ◌<◌, eqb, Float, length, get_or, Option, Some, None}
 use Rattle.std.specs.Float.{binary64}
 use Rattle.std.specs.Float.Ieee.{to_bits}
 use Rattle.answer.specs.Answer.{Answer, gives, refused}
@@ -45,8 +44,8 @@ of_answer value (gives a) = value a
 of_answer value (refused f) = fault f
 
 abbrev of_score : (ScenecutResult → Value) → Option ScenecutResult → Value
-of_score value none = missing
-of_score value (some e) = value e
+of_score value None = missing
+of_score value (Some e) = value e
 
 -- whether a verdict is a cut, and a number of its score
 abbrev pub cut_value : Answer Verdict → Value

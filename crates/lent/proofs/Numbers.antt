@@ -51,6 +51,5 @@ module _ (ns : List ℕ) (s : View) (rest : List ℕ) (size : length ns ≡ numb
       ∙ get_or-append-add (take settings_long ns) (call_numbers s) i 0
 
   -- and then the rest
-
   pub behind : drop pairs_place (written ns s rest) ≡ rest
   behind = drop_at (take settings_long ns ++ call_numbers s) rest pairs_place front_long
