@@ -4,3 +4,6 @@ pub mod Histories
 pub mod Contracts
 pub mod Quotients
 pub mod Promised
+pub mod Unique
+pub mod WordUnique
+pub mod SensorUnique
