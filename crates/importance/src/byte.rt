@@ -16,8 +16,8 @@ fn sum_row(s: &[u8]) -> u16
     ensures at_most { result ≤ 8 * byte_most }
 {
     let mut sum: u16 = 0;
-    for i in 0..BLOCK_SIDE {
-        sum += s[i] as u16;
+    for x in &s[..BLOCK_SIDE] {
+        sum += *x as u16;
     }
     sum
 }

@@ -13,7 +13,8 @@ const CHUNK: usize = 32;
 const SMALL_CHUNK: usize = 8;
 
 // The sum over n samples from a place on. With an n that is constant where this is inlined, the compiler takes 16 samples
-// in one vector instruction; a sum of 16 bits spares it the widening of every distance.
+// in one vector instruction; a sum of 16 bits spares it the widening of every distance. Two lists go by one place: with `zip` the
+// invariant would be about the iterator too, and the loop no plainer.
 fn chunk_sad(a: &[u8], b: &[u8], at: usize, n: usize) -> u16
     requires long_rows { LongRows a.now b.now (at + n) }
     requires byte_most_bound { n * byte_most < 2 ^ 16 }

@@ -18,6 +18,7 @@ struct Chunk {
     bits: u16,
 }
 
+// Two lists go by one place, as in a chunk of bytes.
 fn chunk_sad(a: &[u16], b: &[u16], at: usize, n: usize) -> Chunk
     requires long_rows { LongRows a.now b.now (at + n) }
     requires n_bound { n ≤ 256 }

@@ -7,5 +7,5 @@ use Rattle.sums.specs.Needs.{byte_most}
 use Rattle.sums.specs.Sums.{sum_below}
 use Rattle.importance.proofs.byte.sum_row.Given as goal
 
-abbrev pub invariant-loop-i : goal.invariant-loop-i
-invariant-loop-i l = (l.i ≤ block_side) × (l.sum ≤ l.i * byte_most) × (l.sum ≡ sum_below l.i (λ (n : ℕ). get_or l.s n 0))
+abbrev pub invariant-loop-x : goal.invariant-loop-x
+invariant-loop-x l = (l.x-index ≤ block_side) × (l.sum ≤ l.x-index * byte_most) × (l.sum ≡ sum_below l.x-index (λ (n : ℕ). get_or l.s n 0))
