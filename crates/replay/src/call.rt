@@ -34,7 +34,7 @@ pub enum Call {
     Threshold,
     Fresh,
     Step,
-    // Of planes of bytes, and of 16 bits.
+    // Of planes of bytes, and of 16 bits, a quarter of a word of the memory.
     Bytes(Measure),
     Quarters(Measure),
     StripsStart,

@@ -1,5 +1,5 @@
-// Calls on two frames that come in strips. The strips stand where planes do, the room behind the second, the carry where the numbers of a state
-// do; the two totals of an end have the last places there.
+// Calls on two frames that come in strips. The strips stand where planes do, the room behind the second, the carry where the numbers
+// of a state do; the two totals of an end have the last places there.
 use crate::memory;
 use crate::memory::{Memory, Side};
 use crate::parts::{part, part_mut};

@@ -29,7 +29,7 @@ pub struct Desk {
     at: usize,
     letter: Option<u8>,
     is_open: bool,
-    // The word at hand: its value, if it has a digit, and how many words it is to copy; with 0 it is none that copies.
+    // The word at hand: its value, if it has a digit, and how many words it is to copy; with 0 it is placed itself.
     word: Option<u64>,
     copies: usize,
     // The check of all bytes so far, and of those above the line.
@@ -107,7 +107,8 @@ impl Desk {
         }
     }
 
-    // What stands at a place of what is due. A damaged list may name any: before the memory stand the counts, elsewhere 0.
+    // What stands at a place of what is due. A damaged list may name any: there are the counts before the memory, and 0 elsewhere. What the
+    // program writes of such a list may not change.
     fn found(&self, place: usize) -> u64 {
         match self.memory.get(Side::Due, place) {
             Some(w) => w,

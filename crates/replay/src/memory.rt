@@ -71,11 +71,11 @@ impl Memory {
         }
     }
 
-    // What is due so far is given from here on.
+    // What is due up to a place is given from here on. What a line wrote past the end is cleared.
     pub fn settle(&mut self, end: usize) {
-        for place in 0..end {
-            let w = self.get(Side::Due, place).unwrap_or(0);
-            self.put(Side::Given, place, w);
+        self.words.copy_within(END..END + end.min(END), 0);
+        if let Some(past) = self.words.get_mut(END..end.min(BOTH)) {
+            past.fill(0);
         }
     }
 
