@@ -4,9 +4,8 @@ use mathlib.Core.List.{List}
 use Prim.Native.Nat.{ℕ, zero, suc, ◌*◌, ◌≤◌, ◌<◌}
 use native.Mathlib.Omega.{arith}
 use lib.IntN.{ℤ, nat_abs}
-use Rattle.hadamard.specs.declared.Four.{Four}
 use Rattle.hadamard.specs.Transform.{sum_z, output}
-use Rattle.hadamard.specs.Steps.{four_of, nth, FourWithin, line_entry, stores, lined_by, LineIn}
+use Rattle.hadamard.specs.Steps.{four_of, nth, AllWithin, line_entry, stores, lined_by, LineIn}
 use Rattle.hadamard.proofs.Halves.{output_most}
 use Rattle.hadamard.proofs.Places.{stores_ext}
 
@@ -19,15 +18,15 @@ nth_four g (suc (suc (suc zero))) h = refl
 nth_four g (suc (suc (suc (suc k)))) h = absurd (omega arith)
 
 -- ---- how large the numbers are
-pub four_within : (m : ℕ) (g : ℕ → ℤ) → ((j : ℕ) → j < 4 → nat_abs (g j) ≤ m) → FourWithin m (four_of g)
-four_within m g h = record { m0 = h 0 (omega arith); m1 = h 1 (omega arith); m2 = h 2 (omega arith); m3 = h 3 (omega arith) }
-
-pub nth_within : (m : ℕ) (x : Four) → FourWithin m x → (k : ℕ) → nat_abs (nth x k) ≤ m
-nth_within m x h zero = h.m0
-nth_within m x h (suc zero) = h.m1
-nth_within m x h (suc (suc zero)) = h.m2
-nth_within m x h (suc (suc (suc zero))) = h.m3
-nth_within m x h (suc (suc (suc (suc k)))) = omega arith
+pub four_within : (m : ℕ) (g : ℕ → ℤ) → ((j : ℕ) → j < 4 → nat_abs (g j) ≤ m) → AllWithin m (four_of g)
+four_within m g h = record { most = each }
+  where
+    each : (k : ℕ) → nat_abs (nth (four_of g) k) ≤ m
+    each zero = h 0 (omega arith)
+    each (suc zero) = h 1 (omega arith)
+    each (suc (suc zero)) = h 2 (omega arith)
+    each (suc (suc (suc zero))) = h 3 (omega arith)
+    each (suc (suc (suc (suc k)))) = omega arith
 
 -- ---- what is loaded, transformed and stored
 module _ (l : List ℤ) (at step : ℕ) where
@@ -35,7 +34,7 @@ module _ (l : List ℤ) (at step : ℕ) where
   unfolding output sum_z
   loaded_outputs = refl
 
-  pub outputs_within : (m : ℕ) → LineIn 4 at step m l → FourWithin (4 * m) (four_of (output 4 (line_entry l at step)))
+  pub outputs_within : (m : ℕ) → LineIn 4 at step m l → AllWithin (4 * m) (four_of (output 4 (line_entry l at step)))
   outputs_within m p = four_within (4 * m) (output 4 (line_entry l at step)) (λ k _. output_most m 4 (line_entry l at step) k p.most)
 
   -- whatever is done to the line, stored it stands in the line's places

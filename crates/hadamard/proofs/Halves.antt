@@ -1,6 +1,7 @@
 -- A transform of twice as many inputs is the sum and the difference of the transforms of its halves, since one more binary
 -- digit adds one common one exactly where both numbers have it. Assumes nothing.
 use mathlib.Core.Path.{◌≡◌, refl, sym, ap, ◌∙◌}
+use mathlib.Core.List.{[], ◌∷◌}
 use Prim.Native.Nat.{ℕ, zero, suc, ◌+◌, ◌*◌, ◌≤◌, ◌<◌, ◌^◌}
 use native.Mathlib.Nat.{add-zero, add-suc}
 use native.Mathlib.Omega.{arith}
@@ -111,7 +112,7 @@ output_2 f =
 -- the network of four
 pub output_4 : (f : ℕ → ℤ)
     → four_of (output 4 f)
-    ≡ record { x0 = (f 0 +ℤ f 1) +ℤ (f 2 +ℤ f 3); x1 = (f 0 -ℤ f 1) +ℤ (f 2 -ℤ f 3); x2 = (f 0 +ℤ f 1) -ℤ (f 2 +ℤ f 3); x3 = (f 0 -ℤ f 1) -ℤ (f 2 -ℤ f 3) }
+    ≡ ((f 0 +ℤ f 1) +ℤ (f 2 +ℤ f 3)) ∷ ((f 0 -ℤ f 1) +ℤ (f 2 -ℤ f 3)) ∷ ((f 0 +ℤ f 1) -ℤ (f 2 +ℤ f 3)) ∷ ((f 0 -ℤ f 1) -ℤ (f 2 -ℤ f 3)) ∷ []
 output_4 f =
     let g : ℕ → ℤ = λ (j : ℕ). f (2 + j) in
     cc (output_low 1 f 0 (omega arith), output_low 1 f 1 (omega arith), output_high 1 f 0 (omega arith), output_high 1 f 1 (omega arith), (output_2 f).0, (output_2 f).1, (output_2 g).0, (output_2 g).1)

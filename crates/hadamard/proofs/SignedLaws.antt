@@ -1,19 +1,15 @@
 -- Signed numbers: the size of a sum and of a difference, and what a signed local of 32 bits holds. Assumes nothing.
 use mathlib.Core.Path.{◌≡◌, ◌∙◌}
-use mathlib.Core.List.{List}
 use mathlib.Core.Bool.{Bool, true, false, cond}
 use Prim.Native.Nat.{ℕ, suc, ◌+◌, ◌-◌, ◌≤◌, ◌<◌, ◌^◌}
 use native.Mathlib.Omega.{arith}
 use lib.Dec.{ltb}
 use lib.IntN.{ℤ, pos, negsuc, ◌+ℤ◌, ◌-ℤ◌, neg_ℤ, nat_abs}
-use lib.ListN.{get_or}
-use lib.Signed.{mag}
 use mir.Syntax.{w32}
 use mir.Val.{SFits, to_z, of_z}
 use mir.Facts.{to_z-of_z}
-use Rattle.sums.proofs.SignedLaws.{abs_flip, mag_abs}
-use Rattle.hadamard.specs.declared.Two.{Two}
 use Rattle.hadamard.specs.Steps.{two_of}
+use Rattle.sums.proofs.SignedLaws.{abs_flip, mag_abs}
 
 abs_cond : (t : Bool) (a b : ℕ) → nat_abs (cond t (negsuc (suc b - suc a)) (pos (a - suc b))) ≤ a + suc b
 abs_cond true a b = omega arith
@@ -35,15 +31,8 @@ fits_abs z h = record { sfits = omega (arith, mag_abs z) }
 pub read_back : (z : ℤ) → nat_abs z < 2 ^ 31 → to_z w32 (of_z w32 z) ≡ z
 read_back z h = to_z-of_z (fits_abs z h)
 
--- what is read back of an entry of a list
-pub read_at : (l : List ℤ) (i : ℕ) → mag (get_or l i (pos 0)) < 2147483648 → to_z w32 (of_z w32 (get_or l i (pos 0))) ≡ get_or l i (pos 0)
-read_at l i h = to_z-of_z {w = w32} (record { sfits = h })
-
--- what two signed locals hold, each below half of what a local takes: it is as small, its sum and its difference fit and are read back
+-- what two signed locals hold, each below half of what a local takes: their sum and their difference fit and are read back
 module _ (a b : ℤ) (h : nat_abs a < 2 ^ 30) (k : nat_abs b < 2 ^ 30) where
-  pub both_small : (nat_abs (to_z w32 (of_z w32 a)) < 2 ^ 30) × (nat_abs (to_z w32 (of_z w32 b)) < 2 ^ 30)
-  both_small = rw (read_back a (omega arith), read_back b (omega arith)) (h, k)
-
   held_add : to_z w32 (of_z w32 a) +ℤ to_z w32 (of_z w32 b) ≡ a +ℤ b
   held_add = rw (read_back a (omega arith), read_back b (omega arith))
 
@@ -56,9 +45,6 @@ module _ (a b : ℤ) (h : nat_abs a < 2 ^ 30) (k : nat_abs b < 2 ^ 30) where
   pub sub_asked : SFits w32 (to_z w32 (of_z w32 a) -ℤ to_z w32 (of_z w32 b))
   sub_asked = rw held_sub (fits_abs (a -ℤ b) (omega (arith, abs_sub a b)))
 
-  -- a butterfly's numbers, as it makes them and as they are read back
-  pub two_made : ◌≡◌ {A = Two} (record { sum = to_z w32 (of_z w32 (to_z w32 (of_z w32 a) +ℤ to_z w32 (of_z w32 b))); difference = to_z w32 (of_z w32 (to_z w32 (of_z w32 a) -ℤ to_z w32 (of_z w32 b))) }) (two_of a b)
-  two_made = rw (to_z-of_z add_asked, to_z-of_z sub_asked, held_add, held_sub)
-
-  pub two_read : (r : Two) → r ≡ two_of (to_z w32 (of_z w32 a)) (to_z w32 (of_z w32 b)) → (to_z w32 (of_z w32 r.sum) ≡ a +ℤ b) × (to_z w32 (of_z w32 r.difference) ≡ a -ℤ b)
+  -- a butterfly's numbers, as they are read back
+  pub two_read : (r : ℤ × ℤ) → r ≡ two_of (to_z w32 (of_z w32 a)) (to_z w32 (of_z w32 b)) → (to_z w32 (of_z w32 r.0) ≡ a +ℤ b) × (to_z w32 (of_z w32 r.1) ≡ a -ℤ b)
   two_read r e = rw e (to_z-of_z add_asked ∙ held_add, to_z-of_z sub_asked ∙ held_sub)

@@ -1,8 +1,6 @@
 -- What the private functions leave on the way. Contracts of private functions alone cite this file; no public contract does.
 use Rattle.std.specs.Prelude.{◌≡◌, List, [], ◌∷◌, ℕ, zero, suc, ◌+◌, ◌*◌, ◌≤◌, ◌<◌, ℤ, pos, ◌+ℤ◌, ◌-ℤ◌, nat_abs, length, get_or, set}
 use Rattle.hadamard.specs.Transform.{output, entry_most}
-use Rattle.hadamard.specs.declared.Two.{Two}
-use Rattle.hadamard.specs.declared.Four.{Four}
 
 -- the largest numbers on the way: of a line of four before its transform, which may be the third that its entries go through, after one
 -- stage, and after both
@@ -15,27 +13,24 @@ stage_most = 2 * line_most
 abbrev pub out_most : ℕ
 out_most = 4 * line_most
 
--- four numbers by their places, there and back
-abbrev pub four_of : (ℕ → ℤ) → Four
-four_of g = record { x0 = g 0; x1 = g 1; x2 = g 2; x3 = g 3 }
+-- every entry of l is at most m in size
+pub record AllWithin (m : ℕ) (l : List ℤ) : Type 0 where
+  pub most : (i : ℕ) → nat_abs (get_or l i (pos 0)) ≤ m
 
-abbrev pub nth : Four → ℕ → ℤ
-nth x j = get_or (x.x0 ∷ x.x1 ∷ x.x2 ∷ x.x3 ∷ []) j (pos 0)
+-- four numbers by their places, there and back
+abbrev pub four_of : (ℕ → ℤ) → List ℤ
+four_of g = g 0 ∷ g 1 ∷ g 2 ∷ g 3 ∷ []
+
+abbrev pub nth : List ℤ → ℕ → ℤ
+nth l j = get_or l j (pos 0)
 
 -- a sum and a difference
-abbrev pub two_of : ℤ → ℤ → Two
-two_of a b = record { sum = a +ℤ b; difference = a -ℤ b }
+abbrev pub two_of : ℤ → ℤ → ℤ × ℤ
+two_of a b = (a +ℤ b, a -ℤ b)
 
 -- a stage of four numbers: the sums of their two pairs of neighbours, and then the differences. Two stages are the transform.
 abbrev pub stage_of : (ℕ → ℤ) → ℕ → ℤ
-stage_of f = nth (record { x0 = f 0 +ℤ f 1; x1 = f 2 +ℤ f 3; x2 = f 0 -ℤ f 1; x3 = f 2 -ℤ f 3 })
-
--- each of four numbers is at most m in size
-pub record FourWithin (m : ℕ) (x : Four) : Type 0 where
-  pub m0 : nat_abs x.x0 ≤ m
-  pub m1 : nat_abs x.x1 ≤ m
-  pub m2 : nat_abs x.x2 ≤ m
-  pub m3 : nat_abs x.x3 ≤ m
+stage_of f = nth ((f 0 +ℤ f 1) ∷ (f 2 +ℤ f 3) ∷ (f 0 -ℤ f 1) ∷ (f 2 -ℤ f 3) ∷ [])
 
 -- entry j of a line of l: from place at on, a step apart
 abbrev pub line_entry : List ℤ → ℕ → ℕ → ℕ → ℤ
@@ -62,10 +57,6 @@ all_lined_by t n first step (suc m) l = lined_by t n (m * first) step (all_lined
 -- after its lines' transforms
 abbrev pub all_lined : ℕ → ℕ → ℕ → ℕ → List ℤ → List ℤ
 all_lined n = all_lined_by (output n) n
-
--- every entry of l is at most m in size
-pub record AllWithin (m : ℕ) (l : List ℤ) : Type 0 where
-  pub most : (i : ℕ) → nat_abs (get_or l i (pos 0)) ≤ m
 
 -- a line of n entries lies in l, and they are at most m in size
 pub record LineIn (n at step m : ℕ) (l : List ℤ) : Type 0 where

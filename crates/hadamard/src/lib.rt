@@ -6,91 +6,63 @@
 ghost use Rattle.std.specs.Prelude.{◌≡◌, ◌+◌, ◌*◌, ◌<◌, ◌^◌, nat_abs, length};
 ghost use Rattle.answer.specs.Answer.{fault_in};
 ghost use Rattle.hadamard.specs.Transform.{output, entry_most, some_beyond, transform_fault, after_transform};
-ghost use Rattle.hadamard.specs.Steps.{two_of, four_of, nth, stage_of, FourWithin, line_entry, stores, lined_by, lined, all_lined_by, all_lined, LineIn, LinesIn, line_most, stage_most, out_most};
+ghost use Rattle.hadamard.specs.Steps.{two_of, four_of, nth, stage_of, AllWithin, line_entry, stores, lined_by, lined, all_lined_by, all_lined, LineIn, LinesIn, line_most, stage_most, out_most};
 
 use answer::Refusal;
 
 // The largest entry, in size.
 const MOST: u32 = 65535;
 
-// Four entries of a line.
-#[derive(Clone, Copy)]
-struct Four {
-    x0: i32,
-    x1: i32,
-    x2: i32,
-    x3: i32,
-}
-
-// A sum and a difference.
-#[derive(Clone, Copy)]
-struct Two {
-    sum: i32,
-    difference: i32,
-}
-
 // The sum and the difference of two numbers: every step of the transform.
-fn butterfly(a: i32, b: i32) -> Two
+fn butterfly(a: i32, b: i32) -> (i32, i32)
     requires a_bound { nat_abs a < 2 ^ 30 }
     requires b_bound { nat_abs b < 2 ^ 30 }
     ensures { result ≡ two_of a b }
 {
-    Two {
-        sum: a + b,
-        difference: a - b,
-    }
+    (a + b, a - b)
 }
 
 // The sums of two pairs of neighbours, and then their differences: a stage of the transform.
-fn paired(x: Four) -> Four
-    requires { FourWithin stage_most x }
+fn paired(x: [i32; 4]) -> [i32; 4]
+    requires { AllWithin stage_most x }
     ensures { result ≡ four_of (stage_of (nth x)) }
 {
-    let a = butterfly(x.x0, x.x1);
-    let b = butterfly(x.x2, x.x3);
-    Four {
-        x0: a.sum,
-        x1: b.sum,
-        x2: a.difference,
-        x3: b.difference,
-    }
+    let (sum, difference) = butterfly(x[0], x[1]);
+    let (next_sum, next_difference) = butterfly(x[2], x[3]);
+    [sum, next_sum, difference, next_difference]
 }
 
 // The transform of four numbers: two stages.
-fn network(x: Four) -> Four
-    requires { FourWithin line_most x }
+fn network(x: [i32; 4]) -> [i32; 4]
+    requires { AllWithin line_most x }
     ensures { result ≡ four_of (output 4 (nth x)) }
 {
     paired(paired(x))
 }
 
 // The four entries from place at on, a step apart.
-fn load(block: &[i32], at: usize, step: usize) -> Four
+fn load(block: &[i32], at: usize, step: usize) -> [i32; 4]
     requires { at + 3 * step < length block.now }
     ensures { result ≡ four_of (line_entry block.now at step) }
 {
-    Four {
-        x0: block[at + 0 * step],
-        x1: block[at + 1 * step],
-        x2: block[at + 2 * step],
-        x3: block[at + 3 * step],
-    }
+    [
+        block[at],
+        block[at + step],
+        block[at + 2 * step],
+        block[at + 3 * step],
+    ]
 }
 
 // Puts four numbers into these places.
-fn store(block: &mut [i32], at: usize, step: usize, y: Four)
+fn store(block: &mut [i32], at: usize, step: usize, y: [i32; 4])
     requires step_in_bounds { at + 3 * step < length block.old }
-    requires four_within { FourWithin out_most y }
+    requires four_within { AllWithin out_most y }
     ensures { block.new ≡ stores 4 at step (nth y) block.old }
 {
-    let y0 = y.x0;
-    let y1 = y.x1;
-    let y2 = y.x2;
-    let y3 = y.x3;
-    block[at + 0 * step] = y0;
-    block[at + 1 * step] = y1;
-    block[at + 2 * step] = y2;
-    block[at + 3 * step] = y3;
+    block[at] = y[0];
+    block[at + step] = y[1];
+    block[at + 2 * step] = y[2];
+    block[at + 3 * step] = y[3];
 }
 
 // The transform of a line of four entries, in their places.
@@ -102,7 +74,7 @@ fn line4(block: &mut [i32], at: usize, step: usize)
     store(block, at, step, y);
 }
 
-// The transform of four lines of four.
+// The transform of four lines of four. (By number: the entries of a line lie a step apart, so no iterator over parts gives a line.)
 fn lines(block: &mut [i32], first: usize, step: usize)
     requires { LinesIn 4 4 first step line_most block.old }
     ensures { block.new ≡ all_lined 4 first step 4 block.old }
@@ -142,7 +114,7 @@ fn stage(block: &mut [i32], at: usize, step: usize)
     store(block, at, step, y);
 }
 
-// A stage of 16 rows of four.
+// A stage of 16 rows of four. (By number: of what is written through `as_chunks_mut` a proof knows nothing.)
 fn stage_rows(block: &mut [i32])
     requires { LinesIn 4 16 4 1 stage_most block.old }
     ensures { block.new ≡ all_lined_by stage_of 4 4 1 16 block.old }
