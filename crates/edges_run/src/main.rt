@@ -8,9 +8,8 @@ use plane::Plane;
 use score::{Measure, ScenecutResult, ScoreDeque, scoring};
 use settings::Settings;
 use state::{Call, State};
-use std::fmt;
 use std::fmt::Display;
-use std::io;
+use std::{fmt, io};
 
 const DEPTH: u64 = 8;
 
@@ -49,7 +48,13 @@ struct Measures(Decision);
 impl Display for Measures {
     fn fmt<W: fmt::Write>(&self, f: &mut fmt::Formatter<W>) -> fmt::Result {
         match self.0.score {
-            Some(s) => write!(f, "{}\n{}\n{}", Bits(s.inter_cost), Bits(s.imp_block_cost), Bits(s.threshold)),
+            Some(s) => write!(
+                f,
+                "{}\n{}\n{}",
+                Bits(s.inter_cost),
+                Bits(s.imp_block_cost),
+                Bits(s.threshold)
+            ),
             None => write!(f, "no score"),
         }
     }
@@ -88,11 +93,20 @@ fn put_blocks(rt: &impl Print) -> io::Result<()> {
     let wide = whole_plane(15, 8);
     let narrow = Plane { width: 7, ..wide };
     print!(rt; "15x8, 0 against 9, total: ")?;
-    put(rt, importance::importance_total(DEPTH, wide, &dark, wide, &light))?;
+    put(
+        rt,
+        importance::importance_total(DEPTH, wide, &dark, wide, &light),
+    )?;
     print!(rt; "15x8, 0 against 9, importance: ")?;
-    put(rt, importance::importance(DEPTH, wide, &dark, wide, &light).map(Bits))?;
+    put(
+        rt,
+        importance::importance(DEPTH, wide, &dark, wide, &light).map(Bits),
+    )?;
     print!(rt; "7x8, 0 against 9, importance: ")?;
-    put(rt, importance::importance(DEPTH, narrow, &dark, narrow, &light).map(Bits))
+    put(
+        rt,
+        importance::importance(DEPTH, narrow, &dark, narrow, &light).map(Bits),
+    )
 }
 
 // A fresh detector in Standard mode.
@@ -123,7 +137,12 @@ fn call(length: usize, number: u64, list: &[f64]) -> Call {
 
 // The first call of a detector with lookahead 5.
 fn put_first(rt: &impl Print, length: usize, n: u64, list: &[f64]) -> io::Result<()> {
-    put(rt, detector::step(fresh(5), &call(length, n, list)).answer.map(Backward))
+    put(
+        rt,
+        detector::step(fresh(5), &call(length, n, list))
+            .answer
+            .map(Backward),
+    )
 }
 
 // "Lookahead 5, L 5: no score. Standard, L 7: backward is f64::MAX for first number 5, 0 for 1."
@@ -152,7 +171,10 @@ fn put_planes(rt: &impl Print) -> io::Result<()> {
     let long = whole_plane(16, 9);
     let none = whole_plane(0, 8);
     print!(rt; "2 of the first plane, 1 of the second: ")?;
-    put(rt, importance::importance_total(DEPTH, long, &samples, none, &samples))
+    put(
+        rt,
+        importance::importance_total(DEPTH, long, &samples, none, &samples),
+    )
 }
 
 // 3 before 19: planes of another height, neither with a block
@@ -161,7 +183,10 @@ fn put_no_block(rt: &impl Print) -> io::Result<()> {
     let short = whole_plane(7, 8);
     let long = whole_plane(7, 9);
     print!(rt; "3 of two planes, 19 of both: ")?;
-    put(rt, importance::importance_total(DEPTH, short, &samples, long, &samples))
+    put(
+        rt,
+        importance::importance_total(DEPTH, short, &samples, long, &samples),
+    )
 }
 
 // 3 before 4
@@ -172,7 +197,10 @@ fn put_costs(rt: &impl Print) -> io::Result<()> {
     let wide = whole_plane(16, 8);
     let narrow = whole_plane(8, 8);
     print!(rt; "3 of two planes, 4 of the cost list: ")?;
-    put(rt, intra::estimate_intra_costs(DEPTH, wide, &samples, narrow, &mut work, &mut costs))
+    put(
+        rt,
+        intra::estimate_intra_costs(DEPTH, wide, &samples, narrow, &mut work, &mut costs),
+    )
 }
 
 // 8 before 9: one frame after an empty set, with no item. 9 before 10: one frame, with lists that should be empty.
@@ -180,9 +208,19 @@ fn put_orders(rt: &impl Print) -> io::Result<()> {
     let one = [1.0];
     let empty = detector::step(fresh(0), &call(0, 1, &one[..0])).state;
     print!(rt; "Standard, lookahead 0, L 1 after L 0, 8 and 9: ")?;
-    put(rt, detector::step(empty, &call(1, 2, &one[..0])).answer.map(Backward))?;
+    put(
+        rt,
+        detector::step(empty, &call(1, 2, &one[..0]))
+            .answer
+            .map(Backward),
+    )?;
     print!(rt; "Standard, lookahead 0, L 1 with one item, 9 and 10: ")?;
-    put(rt, detector::step(fresh(0), &call(1, 1, &one)).answer.map(Backward))
+    put(
+        rt,
+        detector::step(fresh(0), &call(1, 1, &one))
+            .answer
+            .map(Backward),
+    )
 }
 
 // The measure of a pair of which only the inter cost counts.
@@ -208,10 +246,21 @@ fn put_run(rt: &impl Print) -> io::Result<()> {
     let importance = [4.0, 5.0, 6.0];
     let threshold = [7.0, 8.0, 9.0];
     let start = Stepped {
-        answer: Ok(Decision { cut: false, score: None }),
+        answer: Ok(Decision {
+            cut: false,
+            score: None,
+        }),
         state: fresh(0),
     };
-    let last = runs::run(start, &[1, 2], &[2, 2], &[0, 0], &inter, &importance, &threshold);
+    let last = runs::run(
+        start,
+        &[1, 2],
+        &[2, 2],
+        &[0, 0],
+        &inter,
+        &importance,
+        &threshold,
+    );
     println!(rt; "Standard, lookahead 0, a run of two calls, the last one's three numbers:")?;
     put(rt, last.answer.map(Measures))
 }

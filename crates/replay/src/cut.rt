@@ -1,10 +1,10 @@
 // Calls on two frames that come in strips. The strips stand where planes do, the room behind the second, the carry where the numbers
 // of a state do; the two totals of an end have the last places there.
-use crate::memory;
 use crate::memory::{Memory, Side};
 use crate::parts::{part, part_mut};
 use crate::planes::COSTS;
 use crate::sample::Sample;
+use crate::{memory, sample};
 use brinepulley::sensor;
 
 // Room for the carry, for the second strip, for what is held of both.
@@ -58,7 +58,7 @@ impl<S: Sample> Kept<'_, S> {
 
     // How many numbers are lent; both strips, which are only read; how many costs are lent, and how much room.
     fn add(&mut self, memory: &Memory, first: &[S], second: &[S]) -> i64 {
-        S::add(
+        sample::add(
             part_mut(&mut self.carry, memory.number(1)),
             memory.plane(2, first),
             memory.plane(7, second),

@@ -1,9 +1,9 @@
 // Calls on planes of either word, and on costs. The depth is given, then of each plane its length, width, height, stride and origin.
 use crate::call::Measure;
-use crate::memory;
 use crate::memory::{Memory, Side};
 use crate::parts::{part, part_mut};
 use crate::sample::Sample;
+use crate::{memory, sample};
 
 // Room for a plane, and for costs.
 pub const SAMPLES: usize = 8704;
@@ -23,16 +23,16 @@ fn call<S: Sample>(
     let depth = memory.number(1);
     let p = memory.plane(2, first);
     match measure {
-        Measure::Difference => S::difference(depth, p, memory.plane(7, second)),
-        Measure::Total => S::total(depth, p, memory.plane(7, second)),
-        Measure::Delta => S::delta(depth, p, memory.plane(7, second), x),
-        Measure::Importance => S::importance(depth, p, memory.plane(7, second), x),
-        Measure::Satd => S::satd(p.samples, memory.plane(7, second).samples),
+        Measure::Difference => sample::difference(depth, p, memory.plane(7, second)),
+        Measure::Total => sample::total(depth, p, memory.plane(7, second)),
+        Measure::Delta => sample::delta(depth, p, memory.plane(7, second), x),
+        Measure::Importance => sample::importance(depth, p, memory.plane(7, second), x),
+        Measure::Satd => sample::satd(p.samples, memory.plane(7, second).samples),
         Measure::Intra => {
             let costs = part_mut(costs, memory.number(12));
-            S::intra(depth, p, memory.plane_mut(7, second), costs)
+            sample::intra(depth, p, memory.plane_mut(7, second), costs)
         }
-        Measure::Reduce => S::reduce(depth, memory.number(12), p, memory.plane_mut(7, second)),
+        Measure::Reduce => sample::reduce(depth, memory.number(12), p, memory.plane_mut(7, second)),
     }
 }
 
