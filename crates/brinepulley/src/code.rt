@@ -1,4 +1,5 @@
-// The i64 that a C function returns: a number at or above 0, or a refusal's number negated.
+// The i64 that a C function returns: a number at or above 0, or a refusal's number negated. (Functions and no `From`: a number must fit, which is a
+// `requires`, and a float goes to a lent place.)
 ghost use Rattle.std.specs.Prelude.{◌≡◌, pos, neg_ℤ};
 ghost use Rattle.answer.specs.Answer.{answer_of, fault_in};
 ghost use Rattle.answer.specs.Refusal.{number_of};

@@ -1,4 +1,4 @@
-// The library for C. Each function answers a number at or above 0, or a refusal's number negated. What it
+// The library for C, whose parameters these are: numbers for depth and mode, and four for a plane. Each function answers a number at or above 0, or a refusal's number negated. What it
 // writes to lent places is in its contract, whole.
 #![tactic(auto)]
 

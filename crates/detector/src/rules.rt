@@ -48,7 +48,7 @@ impl Reading<'_> {
         }
     }
 
-    // The deque with items 0 to k - 1 scored.
+    // The deque with items 0 to k - 1 scored. (By number: it is the pair's number too, and the mode says which lists have an item.)
     fn items_scored(&self, o: usize, k: usize, d: ScoreDeque) -> ScoreDeque
         requires { (d.count + k ≤ room) × (k < self.now.call.length) }
         ensures { held result ≡ holding (items_of (is_fast self.now.settings) (fast_threshold self.now.settings) o self.now.call.number (item_in self.now.settings (call_of self.now.call)) k (content d)) }

@@ -13,8 +13,6 @@ use std::{fmt, io};
 
 const DEPTH: u64 = 8;
 
-const STANDARD: u64 = 2;
-
 // A float by its bits; every NaN is one.
 #[derive(Clone, Copy)]
 struct Bits(f64);
@@ -116,7 +114,7 @@ fn fresh(lookahead: usize) -> State {
         height: 64,
         bit_depth: 8,
         lookahead_distance: lookahead,
-        mode: STANDARD,
+        mode: scale::STANDARD,
         min_key_frame_interval: 0,
         max_key_frame_interval: 100,
     };

@@ -94,7 +94,7 @@ fn line16(block: &mut [i32], step: usize)
     lines(block, 4 * step, step);
 }
 
-// The transform of four columns of 16. Each is a part of its own, so that the places in it are the same for all four: the
+// The transform of four columns of 16. (By number: the four overlap, so no method cuts the list into them.) Each is a part of its own, so that the places in it are the same for all four: the
 // compiler then takes the four at once.
 fn columns(block: &mut [i32])
     requires { LinesIn 16 4 1 4 entry_most block.old }
@@ -105,7 +105,8 @@ fn columns(block: &mut [i32])
     }
 }
 
-// A stage of a line of four entries, in their places.
+// A stage of a line of four entries, in their places. (That and `line4` stay two: a closure for what is done would bring its own clauses to
+// both, and they are two lines each.)
 fn stage(block: &mut [i32], at: usize, step: usize)
     requires { LineIn 4 at step stage_most block.old }
     ensures { block.new ≡ lined_by stage_of 4 at step block.old }
@@ -169,7 +170,7 @@ pub fn hadamard4x4(block: &mut [i32]) -> Result<(), Refusal>
     Ok(())
 }
 
-// The transform of 64 entries, eight rows of eight, in their place.
+// The transform of 64 entries, eight rows of eight, in their place. (The two sizes take other steps, so no constant makes them one.)
 #[tactic(auto, using(answer::proofs::Laws::lents))]
 pub fn hadamard8x8(block: &mut [i32]) -> Result<(), Refusal>
     ensures value { fault_in result ≡ transform_fault 8 block.old }

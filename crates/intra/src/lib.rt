@@ -28,7 +28,7 @@ fn flat_sample<S: Depths>(depth: u64) -> S
 }
 
 // The eight rows of a block that starts at a place of the work plane, each from the block's own column onward: eight samples of a flat row,
-// `pred_dc_128`.
+// `pred_dc_128`. (By number, as below: a block's rows lie a stride apart, and no method cuts a list into them.)
 fn fill_block<S: Sample>(work: &mut [S], start: usize, stride: usize, flat: S)
     requires { SquareIn start stride (length work.old) }
     ensures { S.values work.new ≡ filled (S.value flat) start stride block_side block_side (S.values work.old) }
@@ -86,7 +86,7 @@ fn block_cost<S: Sample>(s: &[S], start: usize, stride: usize, flat: S) -> u32
     satd::whole_satd(&block, &[flat; SAMPLES])
 }
 
-// Row y of blocks: each block's cost goes to its place in the list.
+// Row y of blocks: each block's cost goes to its place in the list. (By index: the block's number is its place in both.)
 fn blocks_row<S: Sample>(p: Plane, s: &[S], costs: &mut [u32], y: usize, flat: S)
     requires s_value { plane_fault p (length s.now) ≡ 0 }
     requires p_in_bounds { block_count p ≤ length costs.old }

@@ -74,6 +74,7 @@ fn lent_deque(numbers: &[u64; NUMBERS], scores: &[f64; SCORES], count: usize) ->
     out
 }
 
+// (Place by place, by name: the header names each place, and `From` would only wrap this.)
 fn lent_settings(numbers: &[u64; NUMBERS]) -> Settings
     ensures { result ≡ settings_of numbers.now }
 {

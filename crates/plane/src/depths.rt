@@ -15,11 +15,12 @@ pub trait Depths: Sample {
 
     const BITS: u64;
 
-    // Whether samples of the word may have this depth.
+    // Whether samples of the word may have this depth. A depth stays a number wherever it is a parameter: 5 answers every other one
+    // (`word_fault`), so a type of the three depths would ask more of callers.
     fn suits(depth: u64) -> bool
         ensures { result ≡ suits word depth };
 
-    // The bits that either has.
+    // The bits that either has. (`BitOr` of the library says nothing of a sample's value.)
     fn or(self, other: Self) -> Self
         ensures { Self.Sample.value result ≡ bit_or (Self.Sample.value self) (Self.Sample.value other) };
 

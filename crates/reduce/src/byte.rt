@@ -25,7 +25,8 @@ fn pair(s: &[u8], k: usize) -> u16
     s[2 * k] as u16 + s[2 * k + 1] as u16
 }
 
-// Eight sums gain two rows.
+// Eight sums gain two rows. (By index, as in the loops below: two samples of each list go to one sum, the vector loop is measured, and of what
+// is written through `iter_mut().zip` a proof knows nothing.)
 fn add_lanes(sums: &mut [u16], a: &[u8], b: &[u8])
     requires lane_count_in_bounds { lane_count ≤ length sums.old }
     requires lane_count_in_bounds_2 { (2 * lane_count ≤ length a.now) × (2 * lane_count ≤ length b.now) }
@@ -51,7 +52,7 @@ fn add_rows(sums: &mut [u16], a: &[u8], b: &[u8])
     }
 }
 
-// They gain all rows of the squares, from none.
+// They gain all rows of the squares, from none. (Two rows at a time, which overlap others' padding: no method cuts the list into them.)
 fn add_all(sums: &mut [u16], s: &[u8], start: usize, stride: usize, half: usize)
     requires sums_len { length sums.old ≡ sum_count }
     requires by_index { (k : ℕ) → get_or sums.old k 0 ≡ 0 }
@@ -66,7 +67,7 @@ fn add_all(sums: &mut [u16], s: &[u8], start: usize, stride: usize, half: usize)
     }
 }
 
-// The means of groups of n sums, a group's sums being of so many samples.
+// The means of groups of n sums, a group's sums being of so many samples. (By index: `count` and `n` stand as numbers where this is inlined.)
 fn put_means(out: &mut [u8], sums: &[u16], count: usize, n: usize, samples: u32)
     requires count_in_bounds { count ≤ length out.old }
     requires n_in_bounds { count * n ≤ length sums.now }

@@ -17,7 +17,7 @@ mod word;
 
 pub use row::ReduceRow;
 
-// All rows of squares of a plane and a lent one that are not refused.
+// All rows of squares of a plane and a lent one that are not refused. (By number: rows lie a stride apart from an origin on.)
 fn reduce_plane<S: ReduceRow>(factor: usize, p: Plane, s: &[S], q: Plane, reduced: &mut [S])
     requires factor_value { bad_factor factor ≡ false }
     requires s_value { plane_fault p (length s.now) ≡ 0 }

@@ -20,7 +20,7 @@ pub fn sum_row<S: Sample>(row: &[S]) -> u32
     sum
 }
 
-// The sum of the square that starts at a place: 1,024 words at most, which 32 bits hold.
+// The sum of the square that starts at a place: 1,024 words at most, which 32 bits hold. (By number: its rows lie a stride apart.)
 fn sum_square<S: Sample>(s: &[S], start: usize, stride: usize, n: usize) -> u32
     requires rows_in { RowsIn start stride n n (length s.now) }
     requires n_bound { n ≤ 32 }

@@ -99,7 +99,7 @@ impl Desk {
         self.at = self.at.wrapping_add(1);
     }
 
-    // Words go to the next places, copied from one place on.
+    // Words go to the next places, copied from one place on. (By number: a word that is copied may be copied again.)
     fn copy(&mut self, from: usize, count: usize) {
         for k in 0..count {
             let w = self.found(from.wrapping_add(k));

@@ -95,7 +95,7 @@ impl Memory {
         }
     }
 
-    // A plane of a list's first samples.
+    // A plane of a list's first samples, lent to be read or written.
     pub fn plane<'a, S>(&self, place: usize, list: &'a [S]) -> View<&'a [S]> {
         self.view(place, part(list, self.number(place)))
     }

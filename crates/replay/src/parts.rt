@@ -1,4 +1,5 @@
-// Parts of the lists that are given or lent: so many places from the first one on; nothing where there are not so many.
+// Parts of the lists that are given or lent: so many places from the first one on; nothing where there are not so many. (Two of them, as std has
+// `get` and `get_mut`.)
 
 pub fn part<T>(list: &[T], len: usize) -> &[T] {
     list.get(..len).unwrap_or_default()

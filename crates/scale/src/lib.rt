@@ -7,10 +7,11 @@ ghost use Rattle.scale.specs.Scale.{factor_by, scale_of, size_fault, factor_answ
 
 use answer::Refusal;
 
-// The modes (SceneDetectionSpeed) by their numbers: 0 is None and 2 is Standard.
-const FAST: u64 = 1;
+// The modes (SceneDetectionSpeed) by their numbers: 0 is None. They stay numbers, since 6 answers every other one (`size_fault`), so an enum would
+// ask more of callers.
+pub const FAST: u64 = 1;
 
-const STANDARD: u64 = 2;
+pub const STANDARD: u64 = 2;
 
 // The sides of a frame as Fast mode compares it.
 #[derive(Clone, Copy, Debug, PartialEq, Eq)]

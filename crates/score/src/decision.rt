@@ -56,7 +56,8 @@ fn no_flash(fast: bool, before: usize, after: usize, first: bool) -> bool
     }
 }
 
-// Whether the pair of entry o is a cut, for the importance threshold t. Without an entry o it is none.
+// Whether the pair of entry o is a cut, for the importance threshold t. Without an entry o it is none. (`fast` is a truth of the settings, as
+// `cut_of` has it: both values are promised.)
 pub fn adaptive_scenecut(fast: bool, t: f64, d: ScoreDeque, o: usize) -> bool
     ensures { result ≡ cut_of fast t o (content d) }
 {

@@ -34,6 +34,7 @@ fn back_cost(o: usize, pair: u64, own: f64, scores: &[ScenecutResult]) -> f64
     }
 }
 
+// (`x.max(0.0)` of the library promises neither a NaN's nor a zero's sign, which `clamp_of` does.)
 fn clamped(x: f64) -> f64
     ensures { result ≡ clamp_of x }
 {
@@ -52,6 +53,7 @@ fn forward_cost(first: bool, new: f64, own: f64, forward: f64) -> f64
     })
 }
 
+// (Through `new`, where every score is made, so that a further field has one place to go.)
 fn with_forward(first: bool, new: f64, e: ScenecutResult) -> ScenecutResult
     ensures { result ≡ with_forward first new e }
 {
@@ -89,7 +91,7 @@ fn standard_score(pair: u64, m: Measure, back: f64) -> ScenecutResult
     ScenecutResult::new(pair, m.inter, m.importance, back, 0.0, m.threshold)
 }
 
-// The deque with a pair scored. `level` is the threshold of Fast mode.
+// The deque with a pair scored. `level` is the threshold of Fast mode. (`fast` is a truth of the settings, as `score_of` has it.)
 pub fn run_comparison(
     fast: bool,
     level: f64,

@@ -114,7 +114,7 @@ fn take_records(log: &[u8], numbers: &mut [u32], bits: &mut [u64], cuts: &mut [u
     }
 }
 
-// The five floats of a record, as their patterns, to as many places.
+// The five floats of a record, as their patterns, to as many places. (By name, in the order of `ScenecutResult`.)
 fn put_patterns(bytes: &mut [u8], r: Record)
     requires { length bytes.old ≡ pattern_count * pattern_long }
     ensures { bytes.new ≡ pattern_bytes (patterns r) }

@@ -7,6 +7,7 @@ ghost use Rattle.settings.specs.Settings.{lookahead_offset, fast_threshold, impo
 
 use answer::Refusal;
 
+// Depth and mode stay numbers: 5 and 6 answer every other one (`settings_fault`), and 11 finds them in a state.
 #[derive(Clone, Copy)]
 pub struct Settings {
     pub width: usize,
@@ -40,7 +41,7 @@ impl Settings {
     // The modes (`SceneDetectionSpeed`) by their numbers; 2 is Standard.
     pub const NONE: u64 = 0;
 
-    pub const FAST: u64 = 1;
+    pub const FAST: u64 = scale::FAST;
 
     // Refusal 6 or 5 of the settings.
     #[tactic(auto, using(answer::proofs::Laws::refusals), unfolding(crate::specs::Settings::settings_fault))]

@@ -10,7 +10,7 @@ use plane::{BLOCK_SIDE, Plane};
 // How many numbers a carry has.
 pub const CARRY: usize = 6;
 
-// What is carried from call to call, by name.
+// What is carried from call to call, by name. The depth stays a number: a caller may hand back any, which 5 answers (`end_fault`).
 #[derive(Clone, Copy)]
 pub struct Carry {
     pub width: usize,
@@ -21,7 +21,7 @@ pub struct Carry {
     pub importance: u64,
 }
 
-// The six numbers in their lent places, by name.
+// The six numbers in their lent places, by name. (Place by place, here and back: C lends a list, of which the header names each place.)
 fn lent_carry(numbers: &[u64]) -> Carry
     requires { length numbers.now ≡ carry_long }
     ensures { result ≡ carry_of numbers.now }

@@ -25,7 +25,8 @@ pub fn lesser(a: usize, b: usize) -> usize
     a.min(b)
 }
 
-// The places of one list at the start of another, as far as both go. What lies behind them stays.
+// The places of one list at the start of another, as far as both go. What lies behind them stays. (By index: `copy_from_slice` calls memmove,
+// and a measure may call no other library.)
 pub fn copy<S: Sample>(to: &mut [S], from: &[S])
     ensures { S.values to.new ≡ copied (S.values from.now) (S.values to.old) }
 {

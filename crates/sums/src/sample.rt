@@ -14,7 +14,7 @@ pub trait Sample: Copy {
     // The largest sample.
     ghost most: { ℕ };
 
-    // The sample as a number of 32 bits.
+    // The sample as a number of 32 bits. (`Into` of the library says nothing of the value, and so it is with `narrowed`.)
     fn widened(self) -> u32
         ensures is { result ≡ value self }
         ensures at_most { result ≤ most };

@@ -26,13 +26,9 @@ impl Sample for u16 {
         (v & 0xffff) as u16
     }
 
-    // In this form the compiler takes eight distances by three vector instructions, and nothing is widened.
+    // By this the compiler takes eight distances by three vector instructions, and nothing is widened.
     fn distance(self, other: u16) -> u16 {
-        if self < other {
-            other - self
-        } else {
-            self - other
-        }
+        self.abs_diff(other)
     }
 
     fn bounded(s: &[u16]) {}
