@@ -29,7 +29,8 @@ fn window(list: &[f64], from: usize, items: usize) -> &[f64]
 
 // A run of calls over a film. Call j has the number, the length and the previous keyframe at place j, and item k of its lists stands
 // at place j + k of the film's. The answer is that of the last call, or the first refusal. Of a refused state
-// the contract says the view, with the count in it: most often it is one that the run itself made, of which no more can be said.
+// the contract says the view, with the count in it: most often it is one that the run itself made, of which no more can be said. (Six lists: each may have another length, as
+// `calls_of` says.)
 pub fn run(
     before: Stepped,
     numbers: &[u64],

@@ -40,7 +40,8 @@ fn network(x: [i32; 4]) -> [i32; 4]
     paired(paired(x))
 }
 
-// The four entries from place at on, a step apart.
+// The four entries from place at on, a step apart. (A line is a list, a place and a step: entries of lines lie among each other, so none is a
+// part of the list.)
 fn load(block: &[i32], at: usize, step: usize) -> [i32; 4]
     requires { at + 3 * step < length block.now }
     ensures { result ≡ four_of (line_entry block.now at step) }
@@ -145,7 +146,7 @@ fn some_beyond(block: &[i32]) -> bool
         .fold(false, |some, v| some | (v.unsigned_abs() > MOST))
 }
 
-// The refusal of a list as n rows of n entries.
+// The refusal of a list as n rows of n entries. (n is a side, and no count of the list.)
 fn fault(block: &[i32], n: usize) -> Result<(), Refusal>
     requires { n * n < 2 ^ 32 }
     ensures { fault_in result ≡ transform_fault n block.now }

@@ -21,7 +21,7 @@ fn gap<S: Sample>(x: S, y: S) -> i32
     x.widened() as i32 - y.widened() as i32
 }
 
-// The first block's samples less the second's.
+// The first block's samples less the second's. (By one index: what is written through `iter_mut().zip(..)` a proof does not know.)
 fn subtract<S: Sample>(first: &[S; SAMPLES], second: &[S; SAMPLES], block: &mut [i32; SAMPLES])
     ensures { block.new ≡ differences (S.values first.now) (S.values second.now) }
 {

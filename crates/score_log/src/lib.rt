@@ -176,7 +176,8 @@ pub fn read(
     Ok(n as u64)
 }
 
-// A record behind the last whole one of the first `used` bytes, over a torn rest: the new used length.
+// A record behind the last whole one of the first `used` bytes, over a torn rest: the new used length. (List and
+// count: C lends both, and 15 answers a count that is larger.)
 pub fn append(log: &mut [u8], used: usize, r: Record) -> Result<u64, Refusal>
     ensures result_value { answer_of result ≡ append_of log.old used r }
     ensures log_after { log.new ≡ lent_after_append log.old used r }

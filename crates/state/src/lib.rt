@@ -46,7 +46,7 @@ fn any_forbidden(list: &[f64]) -> bool
     list.iter().any(|x| decision::is_forbidden(*x))
 }
 
-// Whether a list that is read has another length, or a forbidden number.
+// Whether a list that is read has another length, or a forbidden number. (`items` is what its length must be: 10 answers another.)
 fn bad_list(items: usize, list: &[f64]) -> bool
     ensures { result ≡ bad_list items list.now }
 {

@@ -18,7 +18,7 @@ pub fn quotient(total: u64, count: u64) -> f64
     std::num::nearest_u64_to_f64(total) / std::num::nearest_u64_to_f64(count)
 }
 
-// The lesser of two numbers.
+// The lesser of two numbers, for whoever cites it: the code here calls the library's `min`.
 pub fn lesser(a: usize, b: usize) -> usize
     ensures { result ≡ min a b }
 {
