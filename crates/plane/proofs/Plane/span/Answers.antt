@@ -1,7 +1,7 @@
 -- `Plane::span` meets its contract: where the row ends within the samples no sum overflows and the part is there; else it is empty. Assumes nothing.
 use mathlib.Core.Path.{◌≡◌, sym, ap, ◌∙◌}
 use mathlib.Core.Bool.{true, false}
-use Prim.Native.Nat.{ℕ, ◌≤◌, ◌+◌, ◌*◌, ◌-◌}
+use Prim.Native.Nat.{ℕ, ◌+◌, ◌*◌, ◌-◌}
 use native.Mathlib.Omega.{arith}
 use borrow.Author.Tests.{leb-true}
 use lib.Dec.{leb}
@@ -10,22 +10,6 @@ use Rattle.plane.specs.declared.Plane.{Plane}
 use Rattle.plane.specs.Needs.{SpanOf}
 use Rattle.plane.specs.Planes.{row_end, row_of}
 use Rattle.plane.proofs.Plane.span.Goals as goal
-
-pub overflow_mul-start : goal.overflow_mul-start
-overflow_mul-start c =
-    -- where the row ends
-    let inside : let s = c.args in row_end s.self s.y ≤ s.n = leb-true _ _ (sym c.row_lies.ensures ∙ c.if-row_lies.true) in
-    omega (arith, inside)
-
-pub overflow_add-start : goal.overflow_add-start
-overflow_add-start c =
-    let inside : let s = c.args in row_end s.self s.y ≤ s.n = leb-true _ _ (sym c.row_lies.ensures ∙ c.if-row_lies.true) in
-    omega (arith, inside)
-
-pub overflow_add-result : goal.overflow_add-result
-overflow_add-result c =
-    let inside : let s = c.args in row_end s.self s.y ≤ s.n = leb-true _ _ (sym c.row_lies.ensures ∙ c.if-row_lies.true) in
-    omega (arith, inside)
 
 -- a row that lies within, and one that does not
 there : (p : Plane) (n y : ℕ) → leb (row_end p y) n ≡ true → SpanOf p n y (p.origin + y * p.stride) (p.origin + y * p.stride + p.width)
