@@ -41,16 +41,13 @@ fn chunk_sad(a: &[u16], b: &[u16], at: usize, n: usize) -> Chunk
 
 impl RowSad for u16 {
     fn row_sad(a: &[u16], b: &[u16]) -> Row {
-        let len = a.len();
         let mut sum: u32 = 0;
         let mut bits: u16 = 0;
-        let mut at: usize = 0;
-        while at < len {
-            let n = sums::lesser(CHUNK, len - at);
+        for at in (0..a.len()).step_by(CHUNK) {
+            let n = sums::lesser(CHUNK, a.len() - at);
             let chunk = chunk_sad(a, b, at, n);
             sum += (chunk.low as u32) + 256 * (chunk.high as u32);
             bits |= chunk.bits;
-            at += n;
         }
         Row { sum, bits }
     }
