@@ -1,5 +1,5 @@
 -- Sums of absolute differences, of a row and of a plane, over the largest sample k. Assumes nothing.
-use mathlib.Core.Path.{◌≡◌, ap, ◌∙◌}
+use mathlib.Core.Path.{◌≡◌, refl, ap, ◌∙◌}
 use mathlib.Core.List.{List}
 use Prim.Native.Nat.{ℕ, ◌+◌, ◌*◌, ◌≤◌, ◌<◌, ◌^◌}
 use native.Mathlib.Nat.{mul-le-mul_right}
@@ -37,6 +37,12 @@ module _ (k : ℕ) (a b : List ℕ) (l : (i : ℕ) → get_or a i 0 ≤ k) (m : 
   pub chunk_next : (at n room : ℕ) → n * k < room → (i sum part : ℕ) → i < n → sum ≡ gaps_from a b at i → part ≡ gap_at a b (at + i)
       → NextSum room i sum part (λ (i : ℕ). gap_at a b (at + i))
   chunk_next at n room = next_sum k n room (λ (i : ℕ). gap_at a b (at + i)) (λ i _. gap_most (at + i))
+
+  -- a turn of the sum over pairs, of which x and y are the next
+  pub pair_next : (room : ℕ) → length a * k < room → (i sum x y part : ℕ) → i < length a → sum ≡ sum_below i (gap_at a b)
+      → x ≡ get_or a i 0 → y ≡ get_or b i 0 → part ≡ apart x y → NextSum room i sum part (gap_at a b)
+  pair_next room fits i sum x y part i< e d f g =
+      next_sum k (length a) room (gap_at a b) (λ i _. gap_most i) fits i sum part i< e (g ∙ rw (d, f) refl)
 
   -- one of the sum over chunks that a row has room for
   pub chunks_next : (from n room : ℕ) → max_side * k < room → (c sum part : ℕ) → (c + 1) * n ≤ max_side
