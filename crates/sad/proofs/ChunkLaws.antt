@@ -1,20 +1,30 @@
 -- Sums over two lists that are taken chunk by chunk from the front: what was summed and what is left. Assumes nothing.
+use mathlib.Core.Bool.{Bool, true, false, ◌||◌}
 use mathlib.Core.List.{List, ◌++◌}
 use mathlib.Core.Path.{◌≡◌, refl, sym, ap, ◌∙◌}
-use Prim.Native.Nat.{ℕ, ◌+◌, ◌-◌, ◌*◌, ◌%◌, ◌≤◌, ◌<◌}
+use Prim.Native.Nat.{ℕ, ◌+◌, ◌-◌, ◌*◌, ◌%◌, ◌≤◌, ◌<◌, ◌^◌}
 use native.Mathlib.Nat.{add-mod_left, mod-eq_of_lt, mul-le-mul_right}
 use native.Mathlib.Omega.{arith}
+use lib.Bits.{bit_or}
+use lib.Dec.{leb}
 use lib.ListN.{length, get_or, take, drop, get_or-append, length-append, length-drop, length-take}
 use lib.Seq.{take-length}
 use Rattle.std.proofs.lemmas.List.{get_or-append-add, take-append-drop, drop-drop}
 use Rattle.plane.specs.Planes.{max_side}
+use Rattle.plane.proofs.SampleLaws.{reach_or}
+use Rattle.sums.specs.Any.{any_below}
+use Rattle.sums.proofs.AnyLaws.{any_below_lem, any_cut, any_zero}
 use Rattle.sums.specs.Sums.{sum_below, apart}
 use Rattle.sums.proofs.SumLaws.{sum_ext, sum_most, sum_cut, sum_none, sum_to}
-use Rattle.sad.specs.Needs.{gap_at}
+use Rattle.sad.specs.Needs.{gap_at, large_from}
 
 -- the sum over two whole lists of one length
 abbrev pub gaps : List ℕ → List ℕ → ℕ
 gaps a b = sum_below (length a) (gap_at a b)
+
+-- what lies apart of a pair that is the next
+pub gap_is : (a b : List ℕ) (i x y : ℕ) → x ≡ get_or a i 0 → y ≡ get_or b i 0 → apart x y ≡ gap_at a b i
+gap_is a b i x y e f = rw (e, f) refl
 
 -- of two lists that start with x and y
 pub gaps_joined : (x r y t : List ℕ) → length x ≡ length y → gaps (x ++ r) (y ++ t) ≡ gaps x y + gaps r t
@@ -52,11 +62,13 @@ whole_left n a x r h e g =
     sym (add-mod_left n (length r)) ∙ ap (λ (k : ℕ). k % n) (sym long) ∙ h
 
 -- .. so that what is shorter than a chunk is nothing
-pub none_left : (whole sum n : ℕ) (a b : List ℕ) → sum + gaps a b ≡ whole → length a % n ≡ 0 → length a < n → sum ≡ whole
-none_left whole sum n a b h e l =
-    let empty : length a ≡ 0 = sym (mod-eq_of_lt l) ∙ e in
-    let none = sum_to (gaps a b) (length a) 0 (gap_at a b) refl empty ∙ sym (sum_none (gap_at a b)) in
+pub sum_is : (whole sum : ℕ) (a b : List ℕ) → sum + gaps a b ≡ whole → length a ≡ 0 → sum ≡ whole
+sum_is whole sum a b h e =
+    let none = sum_to (gaps a b) (length a) 0 (gap_at a b) refl e ∙ sym (sum_none (gap_at a b)) in
     omega arith
+
+pub none_left : (whole sum n : ℕ) (a b : List ℕ) → sum + gaps a b ≡ whole → length a % n ≡ 0 → length a < n → sum ≡ whole
+none_left whole sum n a b h e l = sum_is whole sum a b h (sym (mod-eq_of_lt l) ∙ e)
 
 -- the first n of two lists go likewise
 front_taken : (whole sum part n : ℕ) (a b : List ℕ) → length a ≡ length b → sum + gaps a b ≡ whole → part ≡ gaps (take n a) (take n b)
@@ -75,3 +87,42 @@ row_parts a b m n s t u long h e f g =
     let all : (l : List ℕ) → take (length l - n) (drop n l) ≡ drop n l = λ l. ap (λ (k : ℕ). take k (drop n l)) (sym (length-drop n l)) ∙ take-length (drop n l) in
     let last : gaps (drop (n - m) (drop m a)) (drop (n - m) (drop m b)) ≡ gaps (take (length a - n) (drop n a)) (take (length b - n) (drop n b)) = rw (here a, here b, all a, all b) refl in
     omega (arith, second, last, g)
+
+-- ---- whether a number reaches 2 to the m, likewise
+
+abbrev pub larges : List ℕ → List ℕ → ℕ → Bool
+larges a b m = any_below (length a) (large_from a b 0 m)
+
+or_chain : (a b c : Bool) → (a || b) || c ≡ a || (b || c)
+or_chain true b c = refl
+or_chain false b c = refl
+
+or_none : (a : Bool) → a || false ≡ a
+or_none true = refl
+or_none false = refl
+
+pub larges_joined : (x r y t : List ℕ) (m : ℕ) → length x ≡ length y → larges (x ++ r) (y ++ t) m ≡ larges x y m || larges r t m
+larges_joined x r y t m e =
+    let a = x ++ r in
+    let b = y ++ t in
+    let either : ℕ → ℕ → Bool = λ (i j : ℕ). leb (2 ^ m) i || leb (2 ^ m) j in
+    let at : (l : List ℕ) (i : ℕ) → get_or l (0 + i) 0 ≡ get_or l i 0 = λ l i. ap (λ (k : ℕ). get_or l k 0) (omega arith) in
+    let front = any_below_lem (length x) (large_from a b 0 m) (large_from x y 0 m)
+    (λ i i<. rw (at a i, at b i, at x i, at y i, get_or-append x r 0 i i<, get_or-append y t 0 i (omega arith)) refl) in
+    let first : (i : ℕ) → get_or a (0 + (length x + i)) 0 ≡ get_or r (0 + i) 0 = λ i. at a (length x + i) ∙ get_or-append-add x r i 0 ∙ sym (at r i) in
+    let second : (i : ℕ) → get_or b (0 + (length x + i)) 0 ≡ get_or t (0 + i) 0
+    = λ i. at b (length x + i) ∙ ap (λ (k : ℕ). get_or b (k + i) 0) e ∙ get_or-append-add y t i 0 ∙ sym (at t i) in
+    let rest = any_below_lem (length r) (λ (i : ℕ). large_from a b 0 m (length x + i)) (large_from r t 0 m) (λ i _. rw (first i, second i) refl) in
+    ap (λ (k : ℕ). any_below k (large_from a b 0 m)) (length-append x r) ∙ any_cut (length x) (length r) (large_from a b 0 m) ∙ rw (front, rest) refl
+
+pub bits_taken : (whole : Bool) (bits part m : ℕ) (a b x r y t : List ℕ) → leb (2 ^ m) bits || larges a b m ≡ whole → a ≡ x ++ r → b ≡ y ++ t → length x ≡ length y
+    → leb (2 ^ m) part ≡ larges x y m → leb (2 ^ m) (bit_or bits part) || larges r t m ≡ whole
+bits_taken whole bits part m a b x r y t h e f g p =
+    let cut : larges a b m ≡ larges x y m || larges r t m = rw (e, f) (larges_joined x r y t m g) in
+    ap (λ (k : Bool). k || larges r t m) (reach_or m bits part ∙ ap (λ (k : Bool). leb (2 ^ m) bits || k) p)
+    ∙ or_chain (leb (2 ^ m) bits) (larges x y m) (larges r t m) ∙ ap (λ (k : Bool). leb (2 ^ m) bits || k) (sym cut) ∙ h
+
+pub bits_are : (whole : Bool) (bits m : ℕ) (a b : List ℕ) → leb (2 ^ m) bits || larges a b m ≡ whole → length a ≡ 0 → leb (2 ^ m) bits ≡ whole
+bits_are whole bits m a b h e =
+    let none : larges a b m ≡ false = ap (λ (k : ℕ). any_below k (large_from a b 0 m)) e ∙ any_zero (large_from a b 0 m) in
+    sym (or_none (leb (2 ^ m) bits)) ∙ ap (λ (k : Bool). leb (2 ^ m) bits || k) (sym none) ∙ h
