@@ -11,11 +11,11 @@ use lib.ListN.{length, get_or}
 use Rattle.plane.specs.declared.Plane.{Plane}
 use Rattle.plane.specs.Planes.{byte, suits, row_of, too_large}
 use Rattle.plane.proofs.PlaneLaws.{Pair, length_row}
-use Rattle.plane.proofs.SampleLaws.{Reach, reach_or, large_in, row_large_lem}
+use Rattle.plane.proofs.SampleLaws.{reach_or, large_in, row_large_lem}
 use Rattle.sums.specs.Any.{any_below}
 use Rattle.sums.specs.Needs.{byte_most, word_most}
 use Rattle.sums.specs.Sums.{sum_below}
-use Rattle.sums.proofs.AnyLaws.{any_none, any_more, any_or, any_ext, any_cut}
+use Rattle.sums.proofs.AnyLaws.{any_none, any_more, any_or, any_ext}
 use Rattle.sums.proofs.SumLaws.{NextSum, next_sum, sum_split}
 use Rattle.sad.specs.Needs.{gap_at, large_from}
 

@@ -1,16 +1,15 @@
 -- Sums of absolute differences, of a row and of a plane, over the largest sample k. Assumes nothing.
-use mathlib.Core.Path.{◌≡◌, refl, ap, ◌∙◌}
+use mathlib.Core.Path.{◌≡◌, refl, ◌∙◌}
 use mathlib.Core.List.{List}
 use Prim.Native.Nat.{ℕ, ◌+◌, ◌*◌, ◌≤◌, ◌<◌, ◌^◌}
-use native.Mathlib.Nat.{mul-le-mul_right}
 use native.Mathlib.Omega.{arith}
 use lib.ListN.{length, get_or}
 use Rattle.plane.specs.declared.Plane.{Plane}
-use Rattle.plane.specs.Planes.{Word, max_side, sample_at, row_of, pair_fault}
+use Rattle.plane.specs.Planes.{Word, sample_at, row_of, pair_fault}
 use Rattle.plane.proofs.PlaneLaws.{Pair, length_row, row_at, pair, total_fits}
 use Rattle.plane.proofs.SampleLaws.{measured}
 use Rattle.sums.specs.Sums.{sum_below, apart}
-use Rattle.sums.proofs.SumLaws.{NextSum, next_sum, sum_ext, sum_most, sum_cut, sum_to}
+use Rattle.sums.proofs.SumLaws.{NextSum, next_sum, sum_ext, sum_most, sum_to}
 use Rattle.sad.specs.Difference.{row_sad, plane_sad}
 use Rattle.sad.specs.Needs.{gap_at}
 

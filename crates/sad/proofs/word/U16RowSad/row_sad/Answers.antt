@@ -22,9 +22,15 @@ loop-x-preserved c =
     let step = c.in-Some.ensures.steps in
     let equal : length c.in-Some.x.now ≡ length c.in-Some.y.now = search rules in
     let taken = chunk_taken _ l.sum _ _ _ _ _ _ _ l.invariant.5 step.0.1.0 step.1.1.0 equal c.chunk_sad-chunk.ensures.high_value in
-    let long = left_long _ _ _ _ _ _ l.invariant.4 step.0.1.0 step.1.1.0 equal in
-    (search rules, search rules, search rules, search rules, long, taken,
-     λ m. bits_taken _ l.bits _ m _ _ _ _ _ _ (l.invariant.6 m) step.0.1.0 step.1.1.0 equal (c.chunk_sad-chunk.ensures.by_index m))
+    let long = left_long _ _ _ _ _ _ l.invariant.4 step.0.1.0 step.1.1.0 equal in (
+      search rules,
+      search rules,
+      search rules,
+      search rules,
+      long,
+      taken,
+      λ m. bits_taken _ l.bits _ m _ _ _ _ _ _ (l.invariant.6 m) step.0.1.0 step.1.1.0 equal (c.chunk_sad-chunk.ensures.by_index m),
+    )
 
 pub returns : goal.returns
 returns c =
