@@ -19,6 +19,7 @@ struct Chunk {
     bits: u16,
 }
 
+// Of two chunks of one length.
 fn chunk_sad(a: &[u16], b: &[u16]) -> Chunk
     requires lengths { length a.now ≡ length b.now }
     requires short { length a.now ≤ 256 }
