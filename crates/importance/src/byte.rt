@@ -22,7 +22,8 @@ fn sum_row(s: &[u8]) -> u16
     sum
 }
 
-// The sum of the block that starts at a place.
+// The sum of the block that starts at a place. Row by row from their starts: `inside` of `block_mean` allows every stride, also 0, at which
+// `chunks(stride)` may not be called, and one below eight, at which a chunk is no row.
 #[tactic(auto, using(crate::proofs::BlockSums::row_in))]
 fn sum_8x8_block(s: &[u8], start: usize, stride: usize) -> u16
     requires { start + 7 * stride + block_side ≤ length s.now }

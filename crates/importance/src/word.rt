@@ -9,7 +9,8 @@ use crate::BlockMean;
 use plane::BLOCK_SIDE;
 
 // The sum of four rows of eight samples, a stride apart from a place on. Four samples are added in 16 bits, as long as none has
-// more than 12: so one vector instruction adds eight, and they are widened once. No iterator goes along four rows of one list.
+// more than 12: so one vector instruction adds eight, and they are widened once. By index: `for (((a, b), c), d) in` a zip of zips
+// over four parts of the list is no plainer.
 #[tactic(auto, using(crate::proofs::FourRows::four_small))]
 fn sum_rows(s: &[u16], at: usize, stride: usize) -> u32
     requires inside { at + 3 * stride + block_side ≤ length s.now }

@@ -11,33 +11,37 @@ use lib.ListN.{length, get_or}
 use Rattle.plane.specs.declared.Plane.{Plane}
 use Rattle.plane.specs.Planes.{byte, suits, row_of, too_large}
 use Rattle.plane.proofs.PlaneLaws.{Pair, length_row}
-use Rattle.plane.proofs.SampleLaws.{Reach, reach_or, large_in, row_large_lem}
+use Rattle.plane.proofs.SampleLaws.{reach_or, large_in, row_large_lem}
 use Rattle.sums.specs.Any.{any_below}
 use Rattle.sums.specs.Needs.{byte_most, word_most}
 use Rattle.sums.specs.Sums.{sum_below}
-use Rattle.sums.proofs.AnyLaws.{any_none, any_more, any_or, any_ext, any_cut}
+use Rattle.sums.proofs.AnyLaws.{any_none, any_more, any_or, any_ext}
 use Rattle.sums.proofs.SumLaws.{NextSum, next_sum, sum_split}
-use Rattle.sad.specs.Needs.{gap_at, gaps_from, large_from}
+use Rattle.sad.specs.Needs.{gap_at, large_from}
 
--- the low and the high byte of the distance at place i from a place on
-abbrev pub low_at : List ℕ → List ℕ → ℕ → ℕ → ℕ
-low_at a b at i = gap_at a b (at + i) % 256
+-- the low and the high byte of the distance at place i
+abbrev pub low_at : List ℕ → List ℕ → ℕ → ℕ
+low_at a b i = gap_at a b i % 256
 
-abbrev pub high_at : List ℕ → List ℕ → ℕ → ℕ → ℕ
-high_at a b at i = gap_at a b (at + i) / 256
+abbrev pub high_at : List ℕ → List ℕ → ℕ → ℕ
+high_at a b i = gap_at a b i / 256
 
 -- their sums are the distances' own
-pub bytes_are : (a b : List ℕ) (at n low high : ℕ) → low ≡ sum_below n (low_at a b at) → high ≡ sum_below n (high_at a b at) → low + 256 * high ≡ gaps_from a b at n
-bytes_are a b at n low high e d = rw (e, d) (sum_split 256 n (λ (i : ℕ). gap_at a b (at + i)))
+pub bytes_are : (a b : List ℕ) (n low high : ℕ) → low ≡ sum_below n (low_at a b) → high ≡ sum_below n (high_at a b) → low + 256 * high ≡ sum_below n (gap_at a b)
+bytes_are a b n low high e d = rw (e, d) (sum_split 256 n (gap_at a b))
 
-module _ (a b : List ℕ) (at n : ℕ) (h : n ≤ 256) where
+module _ (a b : List ℕ) (h : length a ≤ 256) where
   -- a turn of each sum, over at most 256 distances
-  pub low_next : (i sum part : ℕ) → i < n → sum ≡ sum_below i (low_at a b at) → part ≡ low_at a b at i → NextSum (2 ^ 16) i sum part (low_at a b at)
-  low_next = next_sum 255 n (2 ^ 16) (low_at a b at) (λ i _. omega arith) (omega arith)
+  pub low_next : (i sum part : ℕ) → i < length a → sum ≡ sum_below i (low_at a b) → part ≡ low_at a b i → NextSum (2 ^ 16) i sum part (low_at a b)
+  low_next = next_sum 255 (length a) (2 ^ 16) (low_at a b) (λ i _. omega arith) (omega arith)
 
   pub high_next : ((i : ℕ) → get_or a i 0 ≤ word_most) → ((i : ℕ) → get_or b i 0 ≤ word_most)
-      → (i sum part : ℕ) → i < n → sum ≡ sum_below i (high_at a b at) → part ≡ high_at a b at i → NextSum (2 ^ 16) i sum part (high_at a b at)
-  high_next l m = next_sum 255 n (2 ^ 16) (high_at a b at) (λ i _. omega (arith, l (at + i), m (at + i))) (omega arith)
+      → (i sum part : ℕ) → i < length a → sum ≡ sum_below i (high_at a b) → part ≡ high_at a b i → NextSum (2 ^ 16) i sum part (high_at a b)
+  high_next l m = next_sum 255 (length a) (2 ^ 16) (high_at a b) (λ i _. omega (arith, l i, m i)) (omega arith)
+
+-- a pair that is the next has its place's bits
+pub pair_large : (a b : List ℕ) (i x y : ℕ) → x ≡ get_or a i 0 → y ≡ get_or b i 0 → (m : ℕ) → leb (2 ^ m) x || leb (2 ^ m) y ≡ large_from a b 0 m i
+pair_large a b i x y e f m = rw (e, f) (ap (λ (k : ℕ). leb (2 ^ m) (get_or a k 0) || leb (2 ^ m) (get_or b k 0)) (omega arith))
 
 -- no byte is too large for its depth
 pub none_large : (a b : List ℕ) → ((i : ℕ) → get_or a i 0 ≤ byte_most) → ((i : ℕ) → get_or b i 0 ≤ byte_most) → (n depth : ℕ) → suits byte depth ≡ true
@@ -46,15 +50,6 @@ none_large a b l m n depth e =
     let small : (x : ℕ) → x ≤ byte_most → leb (2 ^ 8) x ≡ false = λ x h. lt-leb (2 ^ 8) x (omega arith) in
     rw (eqb-true depth 8 e)
     (small 0 (omega arith) ∙ sym (any_none n (large_from a b 0 8) (λ i. rw (small _ (l (0 + i)), small _ (m (0 + i))) refl)))
-
--- a row's bits gain those of a part from a place on
-pub reach_part : (a b : List ℕ) (bits at part n : ℕ) → Reach bits at (large_from a b 0) → ((m : ℕ) → leb (2 ^ m) part ≡ any_below n (large_from a b at m))
-    → Reach (bit_or bits part) (at + n) (large_from a b 0)
-reach_part a b bits at part n h e m =
-    let places : (i : ℕ) → large_from a b at m i ≡ large_from a b 0 m (at + i) = λ i. ap (λ (k : ℕ). leb (2 ^ m) (get_or a k 0) || leb (2 ^ m) (get_or b k 0)) (omega arith) in
-    reach_or m bits part
-    ∙ rw (h m, e m) (ap (λ (t : Bool). any_below at (large_from a b 0 m) || t) (any_ext n (large_from a b at m) (λ (i : ℕ). large_from a b 0 m (at + i)) places))
-    ∙ sym (any_cut at n (large_from a b 0 m))
 
 -- whether row y of one of two planes has a sample that reaches 2 to the m
 abbrev pub large_rows : Plane → List ℕ → Plane → List ℕ → ℕ → ℕ → Bool

@@ -1,4 +1,5 @@
 pub mod SadLaws
+pub mod ChunkLaws
 pub mod ByteLaws
 pub mod Visible
 pub mod Words

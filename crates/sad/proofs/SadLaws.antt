@@ -1,59 +1,27 @@
 -- Sums of absolute differences, of a row and of a plane, over the largest sample k. Assumes nothing.
-use mathlib.Core.Path.{◌≡◌, ap, ◌∙◌}
+use mathlib.Core.Path.{◌≡◌, refl, ◌∙◌}
 use mathlib.Core.List.{List}
 use Prim.Native.Nat.{ℕ, ◌+◌, ◌*◌, ◌≤◌, ◌<◌, ◌^◌}
-use native.Mathlib.Nat.{mul-le-mul_right}
 use native.Mathlib.Omega.{arith}
 use lib.ListN.{length, get_or}
 use Rattle.plane.specs.declared.Plane.{Plane}
-use Rattle.plane.specs.Planes.{Word, max_side, sample_at, row_of, pair_fault}
+use Rattle.plane.specs.Planes.{Word, sample_at, row_of, pair_fault}
 use Rattle.plane.proofs.PlaneLaws.{Pair, length_row, row_at, pair, total_fits}
 use Rattle.plane.proofs.SampleLaws.{measured}
 use Rattle.sums.specs.Sums.{sum_below, apart}
-use Rattle.sums.proofs.SumLaws.{NextSum, next_sum, sum_ext, sum_most, sum_cut, sum_to}
+use Rattle.sums.proofs.SumLaws.{NextSum, next_sum, sum_ext, sum_most, sum_to}
 use Rattle.sad.specs.Difference.{row_sad, plane_sad}
-use Rattle.sad.specs.Needs.{gap_at, gaps_from}
-
--- a part of two rows cut in two, and chunk after chunk
-module _ (a b : List ℕ) (at : ℕ) where
-  gaps_cut : (m n : ℕ) → gaps_from a b at (m + n) ≡ gaps_from a b at m + gaps_from a b (at + m) n
-  gaps_cut m n =
-      sum_cut m n (λ (i : ℕ). gap_at a b (at + i))
-      ∙ ap (λ (rest : ℕ). gaps_from a b at m + rest)
-      (sum_ext n (λ (i : ℕ). gap_at a b (at + (m + i))) (λ (i : ℕ). gap_at a b (at + m + i)) (λ i _. ap (gap_at a b) (omega arith)))
-
-  chunk_more : (c n : ℕ) → gaps_from a b at ((c + 1) * n) ≡ gaps_from a b at (c * n) + gaps_from a b (at + c * n) n
-  chunk_more c n = ap (gaps_from a b at) (omega arith) ∙ gaps_cut (c * n) n
-
--- a row from its first place on
-pub row_from : (a b : List ℕ) (n : ℕ) → gaps_from a b 0 n ≡ sum_below n (gap_at a b)
-row_from a b n = sum_ext n (λ (i : ℕ). gap_at a b (0 + i)) (gap_at a b) (λ i _. ap (gap_at a b) (omega arith))
+use Rattle.sad.specs.Needs.{gap_at}
 
 module _ (k : ℕ) (a b : List ℕ) (l : (i : ℕ) → get_or a i 0 ≤ k) (m : (i : ℕ) → get_or b i 0 ≤ k) where
   gap_most : (x : ℕ) → gap_at a b x ≤ k
   gap_most x = omega (arith, l x, m x)
 
-  -- a turn of the sum over a chunk of n samples, in a room that holds them
-  pub chunk_next : (at n room : ℕ) → n * k < room → (i sum part : ℕ) → i < n → sum ≡ gaps_from a b at i → part ≡ gap_at a b (at + i)
-      → NextSum room i sum part (λ (i : ℕ). gap_at a b (at + i))
-  chunk_next at n room = next_sum k n room (λ (i : ℕ). gap_at a b (at + i)) (λ i _. gap_most (at + i))
-
-  -- one of the sum over chunks that a row has room for
-  pub chunks_next : (from n room : ℕ) → max_side * k < room → (c sum part : ℕ) → (c + 1) * n ≤ max_side
-      → sum ≡ gaps_from a b from (c * n) → part ≡ gaps_from a b (from + c * n) n
-      → (sum + part ≡ gaps_from a b from ((c + 1) * n)) × (sum + part < room)
-  chunks_next from n room fits c sum part reach e d =
-      let more = chunk_more a b from c n in
-      let most = sum_most k ((c + 1) * n) (λ (i : ℕ). gap_at a b (from + i)) (λ i _. gap_most (from + i)) in
-      let all = mul-le-mul_right k reach in
-      (omega arith, omega arith)
-
-  -- a row's sum and that of the part behind it, in a room that holds the longest row
-  pub row_next : (m n room : ℕ) → m + n ≤ max_side → max_side * k < room → (sum part : ℕ) → sum ≡ sum_below m (gap_at a b) → part ≡ gaps_from a b m n
-      → (sum + part ≡ sum_below (m + n) (gap_at a b)) × (sum + part < room)
-  row_next m n room h fits sum part e d =
-      let more : sum + part ≡ sum_below (m + n) (gap_at a b) = omega (arith, sum_cut m n (gap_at a b)) in
-      (more, omega (arith, sum_most k (m + n) (gap_at a b) (λ x _. gap_most x), mul-le-mul_right k h))
+  -- a turn of the sum over pairs, of which x and y are the next
+  pub pair_next : (room : ℕ) → length a * k < room → (i sum x y part : ℕ) → i < length a → sum ≡ sum_below i (gap_at a b)
+      → x ≡ get_or a i 0 → y ≡ get_or b i 0 → part ≡ apart x y → NextSum room i sum part (gap_at a b)
+  pair_next room fits i sum x y part i< e d f g =
+      next_sum k (length a) room (gap_at a b) (λ i _. gap_most i) fits i sum part i< e (g ∙ rw (d, f) refl)
 
   -- what a row of two planes comes to
   row_most : (p q : Plane) (y : ℕ) → row_sad p a q b y ≤ p.width * k

@@ -1,7 +1,8 @@
 // Rows of words of 16 bits. A row is looked at for refusal 16 while it is summed, so that each sample is read once.
-ghost use Rattle.std.specs.Prelude.{◌≡◌, ℕ, ◌+◌, ◌*◌, ◌^◌, ◌≤◌, leb};
+ghost use Rattle.std.specs.Prelude.{◌≡◌, ℕ, ◌+◌, ◌*◌, ◌^◌, ◌≤◌, leb, length};
 ghost use Rattle.sums.specs.Any.{any_below};
-ghost use Rattle.sad.specs.Needs.{gaps_from, large_from, LongRows};
+ghost use Rattle.sums.specs.Sums.{sum_below};
+ghost use Rattle.sad.specs.Needs.{gap_at, large_from};
 
 use crate::{Row, RowSad};
 use sums::Sample;
@@ -18,39 +19,33 @@ struct Chunk {
     bits: u16,
 }
 
-// Two lists go by one place, as in a chunk of bytes.
-fn chunk_sad(a: &[u16], b: &[u16], at: usize, n: usize) -> Chunk
-    requires long_rows { LongRows a.now b.now (at + n) }
-    requires n_bound { n ≤ 256 }
-    ensures high_value { result.low + 256 * result.high ≡ gaps_from a.now b.now at n }
-    ensures by_index { (m : ℕ) → leb (2 ^ m) result.bits ≡ any_below n (large_from a.now b.now at m) }
+// Of two chunks of one length.
+fn chunk_sad(a: &[u16], b: &[u16]) -> Chunk
+    requires lengths { length a.now ≡ length b.now }
+    requires short { length a.now ≤ 256 }
+    ensures high_value { result.low + 256 * result.high ≡ sum_below (length a.now) (gap_at a.now b.now) }
+    ensures by_index { (m : ℕ) → leb (2 ^ m) result.bits ≡ any_below (length a.now) (large_from a.now b.now 0 m) }
 {
     let mut low: u16 = 0;
     let mut high: u16 = 0;
     let mut bits: u16 = 0;
-    for i in 0..n {
-        let x = a[at + i];
-        let y = b[at + i];
-        let d = x.distance(y);
+    for (x, y) in a.iter().zip(b) {
+        let d = x.distance(*y);
         low += d % 256;
         high += d / 256;
-        bits = bits | x | y;
+        bits = bits | *x | *y;
     }
     Chunk { low, high, bits }
 }
 
 impl RowSad for u16 {
     fn row_sad(a: &[u16], b: &[u16]) -> Row {
-        let len = a.len();
         let mut sum: u32 = 0;
         let mut bits: u16 = 0;
-        let mut at: usize = 0;
-        while at < len {
-            let n = sums::lesser(CHUNK, len - at);
-            let chunk = chunk_sad(a, b, at, n);
+        for (x, y) in a.chunks(CHUNK).zip(b.chunks(CHUNK)) {
+            let chunk = chunk_sad(x, y);
             sum += (chunk.low as u32) + 256 * (chunk.high as u32);
             bits |= chunk.bits;
-            at += n;
         }
         Row { sum, bits }
     }

@@ -1,33 +1,29 @@
--- `sad::byte::chunk_sad` meets its contract. After i turns the sum is that of the chunk's first i pairs, which by the bound on a sample fits. Assumes nothing.
-use Prim.Native.Nat.{ℕ, ◌+◌, ◌^◌}
-use native.Mathlib.Omega.{arith}
+-- `sad::byte::chunk_sad` meets its contract: the sum is that of the pairs so far, which by the bound on a sample fits. Assumes nothing.
+use Prim.Native.Nat.{◌^◌}
 use borrow.Author.Rules.{rules}
+use mathlib.Core.Path.{sym}
+use lib.ListN.{length, length-append}
+use Rattle.std.proofs.lemmas.Slice.Zip.{zip_turn}
 use Rattle.sums.specs.Needs.{byte_most}
-use Rattle.sums.proofs.SumLaws.{NextSum, sum_none, sum_to}
-use Rattle.sad.specs.Needs.{gap_at}
-use Rattle.sad.proofs.SadLaws.{chunk_next}
+use Rattle.sums.proofs.SumLaws.{sum_none, sum_to}
+use Rattle.sad.proofs.SadLaws.{pair_next}
 use Rattle.sad.proofs.byte.chunk_sad.Goals as goal
 
-pub loop-i-init : goal.loop-i-init
-loop-i-init c = (search rules, sum_none _)
+pub loop-x-init : goal.loop-x-init
+loop-x-init c = sum_none _
 
 pub overflow_add-sum : goal.overflow_add-sum
 overflow_add-sum c =
-    let next : let s = c.args in NextSum (2 ^ 16) c.loop-i.i c.loop-i.sum c.distance-sum.result (λ (i : ℕ). gap_at s.a.now s.b.now (s.at + i)) = let s = c in
-    chunk_next byte_most s.args.a.now s.args.b.now
-    (λ i. omega (arith, c.shared_slice_known-1.given i))
-    (λ i. omega (arith, c.shared_slice_known-2-1.given i))
-    s.args.at s.args.n (2 ^ 16) (omega arith) c.loop-i.i c.loop-i.sum c.distance-sum.result (omega arith) c.loop-i.invariant.1 c.distance-sum.ensures in
+    let s = c.args in
+    let l = c.loop-x in
+    let turn = zip_turn s.a.now s.b.now l.yielded _ _ c.next.new.self _ (search rules) (search rules) l.yielded_by _ c.in-Some.is c.next.ensures.steps in
+    let next = pair_next byte_most s.a.now s.b.now (λ i. search rules) (λ i. search rules) (2 ^ 16) c.requires.byte_most_bound (length l.yielded) l.sum _ _ _ turn.0 l.invariant (turn.2 0) (turn.3 0) c.distance-sum.ensures in
     record { fits = next.1 }
 
-pub loop-i-preserved : goal.loop-i-preserved
-loop-i-preserved c =
-    let next : let s = c.args in NextSum (2 ^ 16) c.loop-i.i c.loop-i.sum c.distance-sum.result (λ (i : ℕ). gap_at s.a.now s.b.now (s.at + i)) = let s = c in
-    chunk_next byte_most s.args.a.now s.args.b.now
-    (λ i. omega (arith, c.shared_slice_known-1.given i))
-    (λ i. omega (arith, c.shared_slice_known-2-1.given i))
-    s.args.at s.args.n (2 ^ 16) (omega arith) c.loop-i.i c.loop-i.sum c.distance-sum.result (omega arith) c.loop-i.invariant.1 c.distance-sum.ensures in
-    (search rules, next.0)
-
-pub returns : goal.returns
-returns c = sum_to _ _ _ _ c.loop-i.invariant.1 (omega arith)
+pub loop-x-preserved : goal.loop-x-preserved
+loop-x-preserved c =
+    let s = c.args in
+    let l = c.loop-x in
+    let turn = zip_turn s.a.now s.b.now l.yielded _ _ c.next.new.self _ (search rules) (search rules) l.yielded_by _ c.in-Some.is c.next.ensures.steps in
+    let next = pair_next byte_most s.a.now s.b.now (λ i. search rules) (λ i. search rules) (2 ^ 16) c.requires.byte_most_bound (length l.yielded) l.sum _ _ _ turn.0 l.invariant (turn.2 0) (turn.3 0) c.distance-sum.ensures in
+    sum_to _ _ _ _ next.0 (sym (length-append l.yielded _))

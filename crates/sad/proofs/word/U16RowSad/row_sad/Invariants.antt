@@ -1,14 +1,16 @@
--- `sad::word::row_sad` meets its contract: after each turn the sum and the bits are those of the row up to the next chunk. Assumes nothing.
+-- `sad::word::row_sad` meets its contract: what was summed and what is left are the whole row's, and so are the bits. Assumes nothing.
+use mathlib.Core.Bool.{◌||◌}
 use mathlib.Core.Path.{◌≡◌}
-use Prim.Native.Nat.{◌≤◌, ◌-◌}
+use Prim.Native.Nat.{ℕ, ◌+◌, ◌^◌}
+use lib.Dec.{leb}
 use lib.ListN.{length}
-use Rattle.plane.proofs.SampleLaws.{Reach}
-use Rattle.sums.specs.Sums.{sum_below}
-use Rattle.sad.specs.Needs.{gap_at, large_from}
+use Rattle.sad.proofs.ChunkLaws.{gaps, larges}
 use Rattle.sad.proofs.word.U16RowSad.row_sad.Given as goal
 
-abbrev pub invariant-loop-at : goal.invariant-loop-at
-invariant-loop-at l = (l.len ≡ length l.a) × (l.at ≤ l.len) × (l.sum ≡ sum_below l.at (gap_at l.a l.b)) × Reach l.bits l.at (large_from l.a l.b 0)
-
-abbrev pub decreases-loop-at : goal.decreases-loop-at
-decreases-loop-at l = l.len - l.at
+abbrev pub invariant-loop-x : goal.invariant-loop-x
+invariant-loop-x l =
+    let it = l.x-iterator in
+    let r = it.a.rest.now in
+    let t = it.b.rest.now in
+    (goal.iterator-loop-x).can_next it × (goal.iterator-loop-x).is_finite it × (it.a.size ≡ 256) × (it.b.size ≡ 256) × (length r ≡ length t)
+    × (l.sum + gaps r t ≡ gaps l.a l.b) × ((m : ℕ) → leb (2 ^ m) l.bits || larges r t m ≡ larges l.a l.b m)
