@@ -17,7 +17,8 @@ mod word;
 
 pub use row::ReduceRow;
 
-// All rows of squares of a plane and a lent one that are not refused. (By number: rows lie a stride apart from an origin on.)
+// All rows of squares of a plane and a lent one that are not refused. (By number: rows lie a stride apart from an origin on. The lent plane has
+// no type as the other has: its clause stands here alone.)
 fn reduce_plane<S: ReduceRow>(factor: usize, view: &View<S>, q: Plane, reduced: &mut [S])
     requires factor_value { bad_factor factor ≡ false }
     requires reduced_value { plane_fault q (length reduced.old) ≡ 0 }
