@@ -13,10 +13,12 @@ use sums::Sample;
 mod depths;
 mod pair;
 mod samples;
+mod view;
 
 pub use depths::Depths;
 pub use pair::Pair;
 pub use samples::{pair_fault, reaches, rows_large, sample_fault};
+pub use view::View;
 
 // The largest side, of a plane as of a resolution.
 const MAX_SIDE: usize = 8192;

@@ -2,9 +2,9 @@
 ghost use Rattle.std.specs.Prelude.{◌||◌, ◌≡◌, ℕ, ◌^◌, leb, length, get_or};
 ghost use Rattle.answer.specs.Answer.{fault_in};
 ghost use Rattle.sums.specs.Any.{any_below};
-ghost use Rattle.plane.specs.Planes.{plane_fault, too_large, rows_large, sample_fault, shapes_fault, pair_fault};
+ghost use Rattle.plane.specs.Planes.{too_large, rows_large, sample_fault, pair_fault};
 
-use crate::{Depths, Plane};
+use crate::{Depths, Plane, View};
 use answer::Refusal;
 
 // Whether a sample reaches 2 to the depth.
@@ -45,11 +45,10 @@ pub fn rows_large<S: Depths>(depth: u64, p: Plane, s: &[S], from: usize, to: usi
 }
 
 // Whether a plane that is not refused has a visible sample that reaches 2 to the depth.
-fn too_large<S: Depths>(depth: u64, p: Plane, s: &[S]) -> bool
-    requires { plane_fault p (length s.now) ≡ 0 }
-    ensures { result ≡ too_large depth p (S.Sample.values s.now) }
+fn too_large<S: Depths>(depth: u64, view: &View<S>) -> bool
+    ensures { result ≡ too_large depth view.now.plane (S.Sample.values view.now.samples.now) }
 {
-    rows_large(depth, p, s, 0, p.height)
+    rows_large(depth, view.plane, view.samples, 0, view.plane.height)
 }
 
 // The refusal of a plane over its lent samples: of the depth, of its shape, and 16 for a sample that is too large.
@@ -59,18 +58,21 @@ pub fn sample_fault<S: Depths>(depth: u64, p: Plane, s: &[S]) -> Result<(), Refu
 {
     crate::word_fault::<S>(depth)?;
     p.fault(s.len())?;
-    if too_large(depth, p, s) {
+    let view = View {
+        plane: p,
+        samples: s,
+    };
+    if too_large(depth, &view) {
         return Err(Refusal::TooLarge);
     }
     Ok(())
 }
 
 // Whether one of two planes that are not refused has a visible sample that reaches 2 to the depth.
-fn any_large<S: Depths>(depth: u64, p: Plane, a: &[S], q: Plane, b: &[S]) -> bool
-    requires { shapes_fault S.word depth p (length a.now) q (length b.now) ≡ 0 }
-    ensures { result ≡ too_large depth p (S.Sample.values a.now) || too_large depth q (S.Sample.values b.now) }
+fn any_large<S: Depths>(depth: u64, first: &View<S>, second: &View<S>) -> bool
+    ensures { result ≡ too_large depth first.now.plane (S.Sample.values first.now.samples.now) || too_large depth second.now.plane (S.Sample.values second.now.samples.now) }
 {
-    too_large(depth, p, a) || too_large(depth, q, b)
+    too_large(depth, first) || too_large(depth, second)
 }
 
 // The refusal of the difference and of delta, of two planes over their lent samples: by their shapes, and 16 for a sample that is too large.
@@ -85,7 +87,15 @@ pub fn pair_fault<S: Depths>(
     ensures { fault_in result ≡ pair_fault S.word depth p (S.Sample.values a.now) q (S.Sample.values b.now) }
 {
     crate::shapes_fault::<S>(depth, p, a.len(), q, b.len())?;
-    if any_large(depth, p, a, q, b) {
+    let first = View {
+        plane: p,
+        samples: a,
+    };
+    let second = View {
+        plane: q,
+        samples: b,
+    };
+    if any_large(depth, &first, &second) {
         return Err(Refusal::TooLarge);
     }
     Ok(())

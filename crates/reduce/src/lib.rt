@@ -8,7 +8,7 @@ ghost use Rattle.plane.specs.Planes.{plane_fault};
 ghost use Rattle.reduce.specs.Reduce.{bad_factor, too_small, not_reduced, sides_fault, reduce_fault, reduced_after, reduced_of};
 
 use answer::Refusal;
-use plane::{Depths, Plane};
+use plane::{Depths, Plane, View};
 
 mod byte;
 mod row;
@@ -17,16 +17,17 @@ mod word;
 
 pub use row::ReduceRow;
 
-// All rows of squares of a plane and a lent one that are not refused. (By number: rows lie a stride apart from an origin on.)
-fn reduce_plane<S: ReduceRow>(factor: usize, p: Plane, s: &[S], q: Plane, reduced: &mut [S])
+// All rows of squares of a plane and a lent one that are not refused. (By number: rows lie a stride apart from an origin on. The lent plane has
+// no type as the other has: its clause stands here alone.)
+fn reduce_plane<S: ReduceRow>(factor: usize, view: &View<S>, q: Plane, reduced: &mut [S])
     requires factor_value { bad_factor factor ≡ false }
-    requires s_value { plane_fault p (length s.now) ≡ 0 }
     requires reduced_value { plane_fault q (length reduced.old) ≡ 0 }
-    requires q_value { not_reduced factor p q ≡ false }
-    ensures { S.Sample.values reduced.new ≡ reduced_after factor p (S.Sample.values s.now) q (S.Sample.values reduced.old) }
+    requires q_value { not_reduced factor view.now.plane q ≡ false }
+    ensures { S.Sample.values reduced.new ≡ reduced_after factor view.now.plane (S.Sample.values view.now.samples.now) q (S.Sample.values reduced.old) }
 {
-    let stride = p.stride;
-    let origin = p.origin;
+    let s = view.samples;
+    let stride = view.plane.stride;
+    let origin = view.plane.origin;
     let stride2 = q.stride;
     let origin2 = q.origin;
     let width = q.width;
@@ -125,6 +126,10 @@ pub fn reduce<S: ReduceRow>(
     ensures reduced_after { S.Sample.values reduced.new ≡ reduced_of S.Depths.word depth factor p (S.Sample.values s.now) q (S.Sample.values reduced.old) }
 {
     reduce_fault(depth, factor, p, s, q, reduced)?;
-    reduce_plane(factor, p, s, q, reduced);
+    let view = View {
+        plane: p,
+        samples: s,
+    };
+    reduce_plane(factor, &view, q, reduced);
     Ok(())
 }

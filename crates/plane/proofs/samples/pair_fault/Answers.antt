@@ -3,6 +3,7 @@ use mathlib.Core.Path.{sym}
 use native.Mathlib.Omega.{arith}
 use Rattle.answer.proofs.Laws.{refusals}
 use Rattle.plane.specs.Planes.{pair_fault}
+use Rattle.plane.proofs.SampleLaws.{by_shapes, each_passes}
 use Rattle.plane.proofs.samples.pair_fault.Goals as goal
 use Rattle.sums.proofs.SampleLaws.{length_values}
 
@@ -12,8 +13,11 @@ returns-in_err-shapes_fault g c =
     let as_long = length_values g.met.S.Sample.each in
     rw (as_long c.args.a.now, as_long c.args.b.now) (grind (arith, refusals))
 
-pub any_large-requires : goal.any_large-requires
-any_large-requires g c = sym c.in_ok-shapes_fault.ensures
+pub invariant_of-first : goal.invariant_of-first
+invariant_of-first g c = record { lies = (each_passes _ _ _ _ (by_shapes _ _ _ _ _ _ (sym c.in_ok-shapes_fault.ensures)).1).0 }
+
+pub invariant_of-second : goal.invariant_of-second
+invariant_of-second g c = record { lies = (each_passes _ _ _ _ (by_shapes _ _ _ _ _ _ (sym c.in_ok-shapes_fault.ensures)).1).1 }
 
 pub returns-then-any_large : goal.returns-then-any_large
 unfolding pair_fault

@@ -7,5 +7,5 @@ use Rattle.sums.proofs.SampleLaws.{length_values}
 
 pub returns : goal.returns
 returns g c =
-    let s = c.args in
-    c.rows_large.ensures ∙ all_rows s.depth s.p _ (lies _ _ (rw (length_values g.met.S.Sample.each s.s.now) c.requires))
+    let view = c.args.view.now in
+    c.rows_large.ensures ∙ all_rows c.args.depth view.plane _ (lies _ _ (rw (length_values g.met.S.Sample.each view.samples.now) view.lies))
