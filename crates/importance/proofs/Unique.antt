@@ -7,10 +7,20 @@ use Rattle.answer.specs.Unique.{OneOutcome}
 use Rattle.answer.specs.declared.Refusal.{Refusal}
 use Rattle.answer.proofs.Laws.{answer_only}
 use Rattle.importance.proofs.Words.{BlockMeanType, byte_blocks_type, word_blocks_type}
+use Rattle.importance.proofs.byte.U8BlockMean.block_mean.Kinds as block-mean-kinds
+use Rattle.importance.proofs.byte.U8BlockMean.block_mean.Reads as block-mean-reads
+use Rattle.importance.proofs.word.U16BlockMean.block_mean.Kinds as deep-block-mean-kinds
+use Rattle.importance.proofs.word.U16BlockMean.block_mean.Reads as deep-block-mean-reads
 use Rattle.importance.proofs.importance_total.Kinds as total-kinds
 use Rattle.importance.proofs.importance_total.Reads as total-reads
 use Rattle.importance.proofs.importance.Kinds as importance-kinds
 use Rattle.importance.proofs.importance.Reads as importance-reads
+
+pub block_mean_unique : OneOutcome 1 block-mean-kinds.ps block-mean-kinds.r ℕ (λ κs r e. r) block-mean-reads.Post
+block_mean_unique κs a r r' e e' p q = p ∙ sym q
+
+pub deep_block_mean_unique : OneOutcome 1 deep-block-mean-kinds.ps deep-block-mean-kinds.r ℕ (λ κs r e. r) deep-block-mean-reads.Post
+deep_block_mean_unique κs a r r' e e' p q = p ∙ sym q
 
 abbrev TotalAt : BlockMeanType → Type 0
 TotalAt w =

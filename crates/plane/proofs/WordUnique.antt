@@ -15,6 +15,10 @@ use Rattle.plane.proofs.depths.U8Depths.suits.Kinds as byte-suits-kinds
 use Rattle.plane.proofs.depths.U8Depths.suits.Reads as byte-suits-reads
 use Rattle.plane.proofs.depths.U16Depths.suits.Kinds as is-deep-kinds
 use Rattle.plane.proofs.depths.U16Depths.suits.Reads as is-deep-reads
+use Rattle.plane.proofs.depths.U8Depths.or.Kinds as byte-or-kinds
+use Rattle.plane.proofs.depths.U8Depths.or.Reads as byte-or-reads
+use Rattle.plane.proofs.depths.U16Depths.or.Kinds as deep-or-kinds
+use Rattle.plane.proofs.depths.U16Depths.or.Reads as deep-or-reads
 use Rattle.plane.proofs.word_fault.Kinds as word-fault-kinds
 use Rattle.plane.proofs.word_fault.Reads as word-fault-reads
 use Rattle.plane.proofs.shapes_fault.Kinds as shapes-fault-kinds
@@ -35,6 +39,12 @@ byte_suits_unique κs a r r' e e' p q = p ∙ sym q
 
 pub is_deep_unique : OneOutcome 0 is-deep-kinds.ps is-deep-kinds.r Bool (λ κs r e. r) is-deep-reads.Post
 is_deep_unique κs a r r' e e' p q = p ∙ sym q
+
+pub byte_or_unique : OneOutcome 0 byte-or-kinds.ps byte-or-kinds.r ℕ (λ κs r e. r) byte-or-reads.Post
+byte_or_unique κs a r r' e e' p q = p ∙ sym q
+
+pub deep_or_unique : OneOutcome 0 deep-or-kinds.ps deep-or-kinds.r ℕ (λ κs r e. r) deep-or-reads.Post
+deep_or_unique κs a r r' e e' p q = p ∙ sym q
 
 -- of a part that is handed back, what it holds
 abbrev RowAt : SampleType → Type 0

@@ -7,10 +7,21 @@ use Rattle.answer.specs.Unique.{OneOutcome}
 use Rattle.answer.specs.declared.Refusal.{Refusal}
 use Rattle.answer.proofs.Laws.{answer_only}
 use Rattle.sad.proofs.Words.{RowSadType, byte_rows_type, word_rows_type}
+use Rattle.sad.proofs.byte.U8RowSad.row_sad.Kinds as row-sad-kinds
+use Rattle.sad.proofs.byte.U8RowSad.row_sad.Reads as row-sad-reads
+use Rattle.sad.proofs.word.U16RowSad.row_sad.Kinds as deep-row-sad-kinds
+use Rattle.sad.proofs.word.U16RowSad.row_sad.Reads as deep-row-sad-reads
 use Rattle.sad.proofs.plane_difference.Kinds as difference-kinds
 use Rattle.sad.proofs.plane_difference.Reads as difference-reads
 use Rattle.sad.proofs.delta_in_planes.Kinds as delta-kinds
 use Rattle.sad.proofs.delta_in_planes.Reads as delta-reads
+
+-- of two rows the sum; of the bits the contract says only which depths of the word they reach
+pub row_sad_unique : OneOutcome 2 row-sad-kinds.ps row-sad-kinds.r ℕ (λ κs r e. r.sum) row-sad-reads.Post
+row_sad_unique κs a r r' e e' p q = p.0 ∙ sym q.0
+
+pub deep_row_sad_unique : OneOutcome 2 deep-row-sad-kinds.ps deep-row-sad-kinds.r ℕ (λ κs r e. r.sum) deep-row-sad-reads.Post
+deep_row_sad_unique κs a r r' e e' p q = p.0 ∙ sym q.0
 
 abbrev DifferenceAt : RowSadType → Type 0
 DifferenceAt w =
