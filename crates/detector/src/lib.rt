@@ -34,14 +34,15 @@ const RELEASE_REACH: u64 = 9;
 // How far a pair's first frame lies behind the pair's number.
 const LEFT_FRAME: u64 = 1;
 
-// What the step answers, with the next state beside it: where the call is refused, it is the one that was given.
+// What the step answers, with the next state beside it: where the call is refused, it is the one that was given (`HandsBack`).
 #[derive(Clone, Copy)]
 pub struct Stepped {
     pub answer: Result<Decision, Refusal>,
     pub state: State,
 }
 
-// A fresh detector, or the refusal of its settings. Every step of a refused one's state is refused too.
+// A fresh detector, or the refusal of its settings. Every step of a refused one's state is refused too. (No Result alone: `opened_of` promises the
+// state of a refused one as well.)
 #[derive(Clone, Copy)]
 pub struct Opened {
     pub answer: Result<(), Refusal>,

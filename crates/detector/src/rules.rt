@@ -28,7 +28,7 @@ pub struct Progress {
 }
 
 impl Reading<'_> {
-    // What was measured of item k. A list that the mode does not read is not looked at.
+    // What was measured of item k. A list that the mode does not read is not looked at. (One test of a mode, which is a number.)
     fn measure_at(&self, k: usize) -> Measure
         requires { k + 1 < self.now.call.length }
         ensures { result ≡ item_in self.now.settings (call_of self.now.call) k }
@@ -127,7 +127,7 @@ impl Reading<'_> {
     }
 }
 
-// Rule 3.
+// Rule 3. (Apart from the interval rules, as document 01 has it: `rule3` and `interval_of` are two definitions.)
 pub fn none_cut(g: Settings, distance: u64) -> bool
     ensures { result ≡ rule3 g distance }
 {

@@ -19,7 +19,8 @@ mod word;
 
 pub use block::BlockMean;
 
-// The differences of row y of blocks. Each mean is rounded by itself: the mean of the differences is another number.
+// The differences of row y of blocks. Each mean is rounded by itself: the mean of the differences is another number. (By number: a block starts at
+// one place of each list.)
 fn blocks_difference<S: BlockMean>(pair: &Pair<S>, y: usize) -> u64
     requires y_bound { y < blocks_down pair.now.p }
     requires small_blocks { SmallBlocks pair.now.p (S.Sample.values pair.now.a.now) y × SmallBlocks pair.now.q (S.Sample.values pair.now.b.now) y }
@@ -48,7 +49,8 @@ fn any_large<S: BlockMean>(depth: u64, pair: &Pair<S>, from: usize, to: usize) -
 }
 
 // The differences of all whole blocks of two planes of one size, or 16 where a sample is too large. The samples of a row of
-// blocks are looked at just before they are summed; those below the last whole block come last.
+// blocks are looked at just before they are summed; those below the last whole block come last. (By number: rows of blocks lie strides apart. It
+// looks like `sad_plane`, and is another measure with another definition: of rows there, of blocks here.)
 fn all_differences<S: BlockMean>(depth: u64, pair: &Pair<S>) -> Result<u64, Refusal>
     requires { suits S.Depths.word depth ≡ true }
     ensures { answer_of result ≡ answered (refusal 16 (too_large depth pair.now.p (S.Sample.values pair.now.a.now) || too_large depth pair.now.q (S.Sample.values pair.now.b.now))) (importance_total pair.now.p (S.Sample.values pair.now.a.now) pair.now.q (S.Sample.values pair.now.b.now)) }

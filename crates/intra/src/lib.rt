@@ -40,7 +40,7 @@ fn fill_block<S: Sample>(work: &mut [S], start: usize, stride: usize, flat: S)
     }
 }
 
-// Row y of blocks of the work plane. (A type of it and its samples, as View, was tried: it asks for a clause that the plane stays, for the one
+// Row y of blocks of the work plane, by number, as the rows of a block are. (A type of it and its samples, as View, was tried: it asks for a clause that the plane stays, for the one
 // that it spares.)
 fn fill_row<S: Sample>(w: Plane, work: &mut [S], y: usize, flat: S)
     requires work_value { plane_fault w (length work.old) ≡ 0 }

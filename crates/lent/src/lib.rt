@@ -74,7 +74,7 @@ fn lent_deque(numbers: &[u64; NUMBERS], scores: &[f64; SCORES], count: usize) ->
     out
 }
 
-// (Place by place, by name: the header names each place, and `From` would only wrap this.)
+// (Place by place, by name, as in the three functions from `lent_state` on: the header names each place, and `From` would only wrap this.)
 fn lent_settings(numbers: &[u64; NUMBERS]) -> Settings
     ensures { result ≡ settings_of numbers.now }
 {
@@ -103,7 +103,7 @@ fn lent_state(numbers: &[u64; NUMBERS], scores: &[f64; SCORES]) -> State
     }
 }
 
-// A score's doubles.
+// A score's doubles. (Field by field, here and below: no derive gives an array.)
 fn doubles(e: ScenecutResult) -> [f64; DOUBLES]
     ensures { result ≡ doubles e }
 {
@@ -158,7 +158,8 @@ fn put_deque(scores: &mut [f64], d: ScoreDeque)
     }
 }
 
-// The entries' pair numbers, each in its place. By index: of what `iter_mut` lends a proof knows no element afterwards.
+// The entries' pair numbers, each in its place. By index: of what `iter_mut().zip` lends a proof knows no element afterwards, and `enumerate`
+// would count all the places and ask of each whether it has an entry.
 fn put_pairs(numbers: &mut [u64], d: ScoreDeque)
     requires { length numbers.old ≡ numbers_long }
     ensures { numbers.new ≡ take pairs_place numbers.old ++ pairs_placed (content d) (drop pairs_place numbers.old) }

@@ -102,7 +102,7 @@ impl Plane {
         Ok(())
     }
 
-    // Where row y stands over n samples; nowhere, if it does not lie within them.
+    // Where row y stands over n samples; nowhere, if it does not lie within them. (No Option: `row_of` gives an empty row.)
     fn span(self, n: usize, y: usize) -> Span
         ensures { SpanOf self n y result.start result.end }
     {
@@ -129,7 +129,8 @@ impl Plane {
         &s[start..end]
     }
 
-    // Where row y of blocks starts over n samples, or n where there is no such row. Block x starts x * BLOCK_SIDE further on.
+    // Where row y of blocks starts over n samples, or n where there is no such row. Block x starts x * BLOCK_SIDE further on. (No Option: the
+    // definition of the same name gives n.)
     pub fn block_row(self, n: usize, y: usize) -> usize
         ensures { result ≡ block_row self n y }
     {
@@ -145,7 +146,7 @@ impl Plane {
     }
 }
 
-// Refusal 5 of a detector's depth.
+// Refusal 5 of a detector's depth, for which no word is given.
 #[tactic(auto, unfolding(crate::specs::Planes::depth_fault))]
 pub fn depth_fault(depth: u64) -> Result<(), Refusal>
     ensures { fault_in result ≡ depth_fault depth }
@@ -169,7 +170,8 @@ pub fn word_fault<S: Depths>(depth: u64) -> Result<(), Refusal>
     }
 }
 
-// The refusal of two planes over n and m samples: 1 and 2 of the first, 1 and 2 of the second, and 3 where their sizes differ.
+// The refusal of two planes over n and m samples: 1 and 2 of the first, 1 and 2 of the second, and 3 where their sizes differ. (Sizes, not
+// planes, are held against each other: strides and origins may differ.)
 #[tactic(auto, using(answer::proofs::Laws::refusals), unfolding(crate::specs::Planes::sizes_fault, crate::specs::Planes::sizes_differ))]
 fn sizes_fault(p: Plane, n: usize, q: Plane, m: usize) -> Result<(), Refusal>
     ensures { fault_in result ≡ sizes_fault p n q m }

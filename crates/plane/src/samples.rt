@@ -29,7 +29,7 @@ fn bits_of<S: Depths>(row: &[S]) -> S
     bits
 }
 
-// Whether one of the rows from one up to another has a sample that reaches 2 to the depth.
+// Whether one of the rows from one up to another has a sample that reaches 2 to the depth. (By number: rows lie a stride apart.)
 pub fn rows_large<S: Depths>(depth: u64, p: Plane, s: &[S], from: usize, to: usize) -> bool
     ensures { result ≡ rows_large depth p (S.Sample.values s.now) from to }
 {

@@ -25,7 +25,7 @@ fn pair(s: &[u8], k: usize) -> u16
     s[2 * k] as u16 + s[2 * k + 1] as u16
 }
 
-// Eight sums gain two rows. (By index, as in the loops below: two samples of each list go to one sum, the vector loop is measured, and of what
+// Eight sums gain two rows. (By index, as in `add_rows`: two samples of each list go to one sum, the vector loop is measured, and of what
 // is written through `iter_mut().zip` a proof knows nothing.)
 fn add_lanes(sums: &mut [u16], a: &[u8], b: &[u8])
     requires lane_count_in_bounds { lane_count ≤ length sums.old }
@@ -102,6 +102,7 @@ fn put_chunk(out: &mut [u8], s: &[u8], start: usize, stride: usize, half: usize)
 }
 
 // The means of squares side by side, of a chunk at least. The last chunk ends where they end, and may take squares again.
+// (By number: `chunks_mut` gives no chunk that goes back over another.)
 fn put_chunks(out: &mut [u8], s: &[u8], start: usize, stride: usize, half: usize)
     requires half { Half half }
     requires half_bound { sum_count / half ≤ length out.old }

@@ -16,7 +16,7 @@ mod word;
 
 pub use row::{Row, RowSad};
 
-// The sum over the visible samples of two planes, or 16 where a sample is too large.
+// The sum over the visible samples of two planes, or 16 where a sample is too large. (Row by row by number: rows lie a stride apart.)
 fn sad_plane<S: RowSad>(depth: u64, pair: &Pair<S>) -> Result<u64, Refusal>
     requires { suits S.Depths.word depth ≡ true }
     ensures { answer_of result ≡ answered (refusal 16 (too_large depth pair.now.p (S.Sample.values pair.now.a.now) || too_large depth pair.now.q (S.Sample.values pair.now.b.now))) (plane_sad pair.now.p (S.Sample.values pair.now.a.now) pair.now.q (S.Sample.values pair.now.b.now)) }

@@ -34,7 +34,7 @@ fn factor_by(small_edge: usize) -> usize
     }
 }
 
-// The factor of a size and a mode that are not refused: Fast mode alone scales.
+// The factor of a size and a mode that are not refused: Fast mode alone scales. (One test of a number: the mode is one, as above.)
 fn factor(width: usize, height: usize, mode: u64) -> usize
     ensures { result ≡ scale_of width height mode }
 {

@@ -29,7 +29,7 @@ impl ScenecutResult {
         self.forward_adjusted_cost >= self.threshold
     }
 
-    // The same of the backward cost.
+    // The same of the backward cost. (Two fields of a score: a closure that picks the field would be longer than either.)
     fn is_over_backward(&self) -> bool
         ensures { result ≡ over false self.now }
     {
@@ -37,7 +37,7 @@ impl ScenecutResult {
     }
 }
 
-// Fast mode wants more evidence of a flash.
+// Fast mode wants more evidence of a flash. (`fast`: see `adaptive_scenecut`.)
 fn required(fast: bool) -> usize
     ensures { result ≡ required_of fast }
 {

@@ -89,7 +89,7 @@ impl ScoreDeque {
         self.count = kept + 1;
     }
 
-    // Entry i, counted from the front; a score of NaNs, of pair 0, where there is none.
+    // Entry i, counted from the front; a score of NaNs, of pair 0, where there is none (`no_score` of the clause, so no Option).
     pub fn entry(self, i: usize) -> ScenecutResult
         ensures { result ≡ get_or (content self) i no_score }
     {

@@ -6,7 +6,8 @@ ghost use Rattle.score.specs.Scores.{fast_score, standard_score, backward_of, ba
 
 use super::{Measure, ScenecutResult, ScoreDeque};
 
-// The backward cost of a pair whose inter cost is `own`: a walk over the first o entries, front first.
+// The backward cost of a pair whose inter cost is `own`: a walk over the first o entries, front first. (The lesser of two floats by a test, as the
+// crate has it; see `clamped`.)
 fn backward_cost(scores: &[ScenecutResult], o: usize, own: f64) -> f64
     ensures { result ≡ backward_of o own scores.now }
 {
@@ -34,14 +35,14 @@ fn back_cost(o: usize, pair: u64, own: f64, scores: &[ScenecutResult]) -> f64
     }
 }
 
-// (`x.max(0.0)` of the library promises neither a NaN's nor a zero's sign, which `clamp_of` does.)
+// (`x.max(0.0)` of the library promises neither a NaN's nor a zero's sign, which `clamp_of` does. So it is with `min`.)
 fn clamped(x: f64) -> f64
     ensures { result ≡ clamp_of x }
 {
     if x < 0.0 { 0.0 } else { x }
 }
 
-// An entry's forward cost once a pair stands in front of it.
+// An entry's forward cost once a pair stands in front of it. (`first` is a truth about its place, as `forward_of` has it.)
 fn forward_cost(first: bool, new: f64, own: f64, forward: f64) -> f64
     ensures { result ≡ forward_of first new own forward }
 {

@@ -12,7 +12,7 @@ ghost use Rattle.score_log.specs.Needs.{Roomy};
 
 use answer::Refusal;
 
-// A record: the frame's number, the five numbers of its score, and 1 for a cut, 0 for none.
+// A record: the frame's number, the five numbers of its score, and 1 for a cut, 0 for none. (A number, since 13 answers every other one.)
 #[derive(Clone, Copy, Debug, PartialEq)]
 pub struct Record {
     pub number: u32,
@@ -24,7 +24,8 @@ pub struct Record {
     pub cut: u32,
 }
 
-// How long a record is, and where its number, its patterns and its cut begin; how long a pattern is, and how many there are.
+// How long a record is, and where its number, its patterns and its cut begin; how long a pattern is, and how many there are. (The log's bytes are a
+// promise to other readers, docs/FORMATS.md: each place has its name.)
 const RECORD: usize = 47;
 
 const NUMBER: usize = 2;
@@ -150,7 +151,8 @@ pub fn scan(log: &[u8], torn: &mut u64) -> Result<u64, Refusal>
     Ok(records.len() as u64)
 }
 
-// The same, and each record: its number, its five patterns and its cut, in lists that have room for all.
+// The same, and each record: its number, its five patterns and its cut, in lists that have room for all. (Three lists: C lends them, and the
+// clauses name each.)
 #[tactic(auto, using(answer::proofs::Laws::answers, answer::proofs::Laws::lents, answer::proofs::Laws::refusals, answer::proofs::Laws::answer_refused), unfolding(crate::specs::Log::read_fault))]
 pub fn read(
     log: &[u8],

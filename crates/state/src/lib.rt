@@ -13,7 +13,8 @@ use answer::Refusal;
 use score::{ScoreDeque, decision, numbers};
 use settings::Settings;
 
-// What a detector keeps between calls. A last number of 0 says that no call was accepted yet.
+// What a detector keeps between calls. A last number of 0 says that no call was accepted yet: it is the number that C's places hold (`State`
+// of the definitions, `call_numbers`), so no Option.
 #[derive(Clone, Copy)]
 pub struct State {
     pub settings: Settings,
@@ -109,7 +110,7 @@ impl State {
     }
 }
 
-// Refusal 7 of a frame number and a previous keyframe.
+// Refusal 7 of a frame number and a previous keyframe. (This and the two below take what they read, as their definitions do, which name it.)
 #[tactic(auto, unfolding(crate::specs::Refusals::number_fault))]
 fn number_fault(last: u64, n: u64, p: u64) -> Result<(), Refusal>
     ensures { fault_in result ≡ number_fault last n p }
@@ -143,7 +144,7 @@ fn stop_fault(g: Settings, o: usize, length: usize) -> Result<(), Refusal>
 }
 
 impl Call<'_> {
-    // Refusal 10 of the lists. A list that the mode does not read is not looked at.
+    // Refusal 10 of the lists. A list that the mode does not read is not looked at. (Two tests of a mode that is a number: 6 and 11 answer the others.)
     #[tactic(auto, unfolding(crate::specs::Refusals::lists_fault))]
     fn lists_fault(&self, g: Settings) -> Result<(), Refusal>
         ensures { fault_in result ≡ lists_fault g (self.now.length - 1) self.now.inter.now self.now.importance.now self.now.threshold.now }

@@ -33,7 +33,7 @@ pub struct Totals {
 
 // ---- the start
 
-// Begins a pair of frames of a whole size: 0, and the carry. A refused call writes nothing.
+// Begins a pair of frames of a whole size: 0 (`start_of` says so, as C's answer), and the carry. A refused call writes nothing.
 pub fn start(depth: u64, width: usize, height: usize, carry: &mut [u64]) -> Result<u64, Refusal>
     ensures result_value { answer_of result ≡ start_of depth width height carry.old }
     ensures carry_after { carry.new ≡ start_after depth width height carry.old }
@@ -124,7 +124,7 @@ fn add_row<S: Measured>(
     0
 }
 
-// All rows of the strips. What the importance total is then comes back.
+// All rows of the strips, by number. What the importance total is then comes back.
 fn add_rows<S: Measured>(
     c: Carry,
     p: Plane,
