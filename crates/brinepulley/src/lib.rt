@@ -34,7 +34,8 @@ pub fn brine_scale_factor(width: usize, height: usize, mode: u32) -> i64
     code::whole(scale::detect_scale_factor(width, height, mode as u64))
 }
 
-// The sum of absolute differences of two planes.
+// The sum of absolute differences of two planes. (This and the three below look alike but for the measure: one function over a closure would take
+// the eleven parameters a second time.)
 pub fn brine_plane_difference<S: RowSad>(
     depth: u32,
     first: &[S],

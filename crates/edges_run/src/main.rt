@@ -163,7 +163,7 @@ fn put_sides(rt: &impl Print) -> io::Result<()> {
     }
 }
 
-// "Two planes: the first plane's 1 and 2, then the second's"
+// "Two planes: the first plane's 1 and 2, then the second's" (Each of these stands under the sentence of document 01 that it shows.)
 fn put_planes(rt: &impl Print) -> io::Result<()> {
     let samples = [0u8; 128];
     let long = whole_plane(16, 9);

@@ -43,7 +43,7 @@ fn reduce_plane<S: ReduceRow>(factor: usize, view: &View<S>, q: Plane, reduced: 
     }
 }
 
-// Whether a factor is none of the six.
+// Whether a factor is none of the six. (A number and no enum: 6 answers every other factor of a caller, and what comes behind divides by it.)
 #[tactic(auto, unfolding(crate::specs::Reduce::bad_factor))]
 fn bad_factor(factor: usize) -> bool
     ensures { result ≡ bad_factor factor }

@@ -1,4 +1,5 @@
-// A row of squares, of which each word takes those above a single sample in its own way.
+// A row of squares, of which each word takes those above a single sample in its own way. (A start, a stride and a factor, as the definition
+// `mean_from` takes them: a type of the three would be made anew for each row.)
 ghost use Rattle.std.specs.Prelude.{false, ◌≡◌, ◌*◌, ◌<◌, length};
 ghost use Rattle.sums.specs.Table.{table};
 ghost use Rattle.reduce.specs.Reduce.{bad_factor};

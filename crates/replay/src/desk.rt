@@ -116,7 +116,7 @@ impl Desk {
         }
     }
 
-    // The counts, as they are numbered before the memory.
+    // The counts, as they are numbered before the memory. (By number: a damaged list names them so, as above.)
     fn counted(&self, i: usize) -> u64 {
         match i {
             0 => self.lines,

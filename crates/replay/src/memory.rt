@@ -4,7 +4,8 @@ use crate::parts::{part, part_mut};
 use crate::view::View;
 use crate::word::Word;
 
-// Where each kind begins, and the end. The answer that is due and the numbers that are given come first.
+// Where each kind begins, and the end. The answer that is due and the numbers that are given come first. (Places by name: the list's lines name
+// them by number.)
 pub const STATE: usize = 16;
 
 pub const DIFFERENCE: usize = 510;

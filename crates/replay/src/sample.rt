@@ -12,7 +12,7 @@ impl Sample for u8 {}
 
 impl Sample for u16 {}
 
-// (Four functions of the library, which take two planes each and differ in what they measure.)
+// (Each is one function of the library, with its planes taken apart as C has them.)
 pub fn difference<S: Sample>(depth: u32, p: View<&[S]>, q: View<&[S]>) -> i64 {
     brinepulley::brine_plane_difference(
         depth, p.samples, p.width, p.height, p.stride, p.origin, q.samples, q.width, q.height,

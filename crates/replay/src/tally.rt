@@ -45,7 +45,7 @@ impl Tally {
         }
     }
 
-    // The counts, as they are numbered before the memory.
+    // The counts, as they are numbered before the memory. (By number, see the desk's.)
     pub fn counted(&self, i: usize) -> u64 {
         match i {
             1 => self.passed,

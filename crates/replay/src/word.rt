@@ -1,4 +1,5 @@
-// What a place of a list can hold, and the word of the memory that it is written as there.
+// What a place of a list can hold, and the word of the memory that it is written as there. (A line or two for each type: no trait of the library
+// takes the numbers and the floats alike.)
 use octets::float;
 
 pub trait Word: Copy {
