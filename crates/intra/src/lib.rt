@@ -104,7 +104,8 @@ fn blocks_row<S: Sample>(view: &View<S>, costs: &mut [u32], y: usize, flat: S)
     }
 }
 
-// All whole blocks of a plane that is not refused: how many there are.
+// All whole blocks of a plane that is not refused: how many there are. It is made a part of its callers, for their stack.
+#[inline(always)]
 fn all_blocks<S: Sample>(view: &View<S>, costs: &mut [u32], flat: S) -> u64
     requires { block_count view.now.plane ≤ length costs.old }
     ensures count { result ≡ block_count view.now.plane }
@@ -118,7 +119,9 @@ fn all_blocks<S: Sample>(view: &View<S>, costs: &mut [u32], flat: S) -> u64
 }
 
 // The refusal of intra costs: of the depth and the two planes' shapes, 19 where they have no whole block, 4 for a list with no room for the
-// costs, and 16 for a sample that is too large. The work plane's samples are not looked at.
+// costs, and 16 for a sample that is too large. The work plane's samples are not looked at. It is made a part of its callers: two planes as its
+// arguments take 112 bytes of stack.
+#[inline(always)]
 #[tactic(auto, using(answer::proofs::Laws::refusals))]
 fn intra_fault<S: Depths>(
     depth: u64,
