@@ -4,12 +4,9 @@ use mathlib.Core.Path.{◌≡◌, refl, sym, ap, ◌∙◌}
 use mathlib.Core.List.{List}
 use Prim.Native.Nat.{ℕ, ◌+◌, ◌*◌, ◌/◌, ◌≤◌, ◌<◌}
 use native.Mathlib.Omega.{arith}
-use borrow.Author.Tests.{eq-eqb}
 use lib.IntN.{ℤ, pos, ◌-ℤ◌, nat_abs}
 use Rattle.std.specs.Prelude.{map}
 use lib.ListN.{length, get_or, set, length-set}
-use Rattle.answer.specs.Answer.{gives}
-use Rattle.answer.proofs.Laws.{or_later, answer_given}
 use Rattle.sums.proofs.TableLaws.{length_table, is_table, one_filled}
 use Rattle.sums.proofs.SumLaws.{sum_most}
 use Rattle.sums.proofs.SignedLaws.{abs_difference}
@@ -19,12 +16,7 @@ use Rattle.hadamard.specs.Transform.{entry_most, transform_fault, transformed, a
 use Rattle.hadamard.specs.Steps.{AllWithin}
 use Rattle.hadamard.proofs.Square.{length_transformed, transformed_within}
 use Rattle.hadamard.proofs.Range.{table_within, none_beyond, within_more, accepted}
-use Rattle.satd.specs.Satd.{block_size, difference, differences, abs_sum, satd_value, satd_of}
-
--- two whole blocks have a SATD
-pub satd_given : (first second : List ℕ) → length first ≡ block_size → length second ≡ block_size → gives (satd_value first second) ≡ satd_of first second
-satd_given first second d e =
-    answer_given _ _ _ (or_later 0 _ _ (rw (eq-eqb (length first) block_size d)) (rw (eq-eqb (length second) block_size e))) refl
+use Rattle.satd.specs.Satd.{block_size, difference, differences, abs_sum, satd_value}
 
 -- ---- the loop of the subtraction: the first i differences stand in their places
 pub record Subtracted (first second : List ℕ) (i : ℕ) (l : List ℤ) : Type 0 where
