@@ -13,7 +13,7 @@ ghost use Rattle.intra.specs.Costs.{cost_at, costs_after, intra_fault, intra_of,
 ghost use Rattle.intra.specs.Needs.{SquareIn, square_of, square_cost};
 
 use answer::Refusal;
-use plane::{BLOCK_SIDE, Depths, Plane, View};
+use plane::{BLOCK_SIDE, Depths, Plane};
 use satd::SAMPLES;
 use sums::Sample;
 
@@ -40,8 +40,7 @@ fn fill_block<S: Sample>(work: &mut [S], start: usize, stride: usize, flat: S)
     }
 }
 
-// Row y of blocks of the work plane, by number, as the rows of a block are. (A type of it and its samples, as View, was tried: it asks for a clause that the plane stays, for the one
-// that it spares.)
+// Row y of blocks of the work plane, by number, as the rows of a block are.
 fn fill_row<S: Sample>(w: Plane, work: &mut [S], y: usize, flat: S)
     requires work_value { plane_fault w (length work.old) ≡ 0 }
     requires y_bound { y < blocks_down w }
@@ -88,13 +87,12 @@ fn block_cost<S: Sample>(s: &[S], start: usize, stride: usize, flat: S) -> u32
 }
 
 // Row y of blocks: each block's cost goes to its place in the list. (By index: the block's number is its place in both.)
-fn blocks_row<S: Sample>(view: &View<S>, costs: &mut [u32], y: usize, flat: S)
-    requires costs_in_bounds { block_count view.now.plane ≤ length costs.old }
-    requires y_bound { y < blocks_down view.now.plane }
-    ensures { costs.new ≡ written (in_run (y * blocks_across view.now.plane) (blocks_across view.now.plane)) (cost_at (S.value flat) view.now.plane (S.values view.now.samples.now)) costs.old }
+fn blocks_row<S: Sample>(p: Plane, s: &[S], costs: &mut [u32], y: usize, flat: S)
+    requires s_value { plane_fault p (length s.now) ≡ 0 }
+    requires p_in_bounds { block_count p ≤ length costs.old }
+    requires y_bound { y < blocks_down p }
+    ensures { costs.new ≡ written (in_run (y * blocks_across p) (blocks_across p)) (cost_at (S.value flat) p (S.values s.now)) costs.old }
 {
-    let p = view.plane;
-    let s = view.samples;
     let stride = p.stride;
     let across = p.width / BLOCK_SIDE;
     let start = p.block_row(s.len(), y);
@@ -104,24 +102,23 @@ fn blocks_row<S: Sample>(view: &View<S>, costs: &mut [u32], y: usize, flat: S)
     }
 }
 
-// All whole blocks of a plane that is not refused: how many there are. It is made a part of its callers, for their stack.
-#[inline(always)]
-fn all_blocks<S: Sample>(view: &View<S>, costs: &mut [u32], flat: S) -> u64
-    requires { block_count view.now.plane ≤ length costs.old }
-    ensures count { result ≡ block_count view.now.plane }
-    ensures costs_after { costs.new ≡ costs_after (S.value flat) view.now.plane (S.values view.now.samples.now) costs.old }
+// All whole blocks of a plane that is not refused: how many there are. (The plane and its samples, and no View: with one, and strips' `finish` kept
+// apart, adding strips took 1,096 bytes of stack, where 1,024 are its bar.)
+fn all_blocks<S: Sample>(p: Plane, s: &[S], costs: &mut [u32], flat: S) -> u64
+    requires s_value { plane_fault p (length s.now) ≡ 0 }
+    requires p_in_bounds { block_count p ≤ length costs.old }
+    ensures count { result ≡ block_count p }
+    ensures costs_after { costs.new ≡ costs_after (S.value flat) p (S.values s.now) costs.old }
 {
-    let down = view.plane.height / BLOCK_SIDE;
+    let down = p.height / BLOCK_SIDE;
     for y in 0..down {
-        blocks_row(view, costs, y, flat);
+        blocks_row(p, s, costs, y, flat);
     }
-    (down * (view.plane.width / BLOCK_SIDE)) as u64
+    (down * (p.width / BLOCK_SIDE)) as u64
 }
 
 // The refusal of intra costs: of the depth and the two planes' shapes, 19 where they have no whole block, 4 for a list with no room for the
-// costs, and 16 for a sample that is too large. The work plane's samples are not looked at. It is made a part of its callers: two planes as its
-// arguments take 112 bytes of stack.
-#[inline(always)]
+// costs, and 16 for a sample that is too large. The work plane's samples are not looked at.
 #[tactic(auto, using(answer::proofs::Laws::refusals))]
 fn intra_fault<S: Depths>(
     depth: u64,
@@ -165,11 +162,7 @@ pub fn estimate_intra_costs<S: Depths>(
     intra_fault(depth, p, s, w, work, costs.len())?;
     let flat = flat_sample(depth);
     fill_blocks(w, work, flat);
-    let view = View {
-        plane: p,
-        samples: s,
-    };
-    Ok(all_blocks(&view, costs, flat))
+    Ok(all_blocks(p, s, costs, flat))
 }
 
 // The same without a work plane: the costs alone.
@@ -184,10 +177,5 @@ pub fn plane_costs<S: Depths>(
     ensures costs_after { costs.new ≡ plane_costs_of S.word depth p (S.Sample.values s.now) costs.old }
 {
     costs_fault(depth, p, s, costs.len())?;
-    let flat = flat_sample(depth);
-    let view = View {
-        plane: p,
-        samples: s,
-    };
-    Ok(all_blocks(&view, costs, flat))
+    Ok(all_blocks(p, s, costs, flat_sample(depth)))
 }

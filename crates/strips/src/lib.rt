@@ -80,8 +80,7 @@ fn hold_row<S: Sample>(c: Carry, y: usize, first: &[S], second: &[S], room: &mut
 }
 
 // A row of blocks whose eighth row has come: its costs go to the list, and what the importance total rises by comes back. Only rubbish in the
-// room can be refused, and then nothing is written and nothing rises. It is no part of its caller, whose stack is the less for it.
-#[inline(never)]
+// room can be refused, and then nothing is written and nothing rises.
 fn finish<S: Measured>(c: Carry, y: usize, room: &[S], costs: &mut [u32]) -> u64
     requires sound { Sound S.Depths.word c }
     requires c_in_bounds { room_long c ≤ length (S.Sample.values room.now) }

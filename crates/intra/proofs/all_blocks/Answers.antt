@@ -12,15 +12,15 @@ use Rattle.sums.proofs.Wrote.{wrote_none, wrote_more, wrote_all}
 use Rattle.intra.proofs.all_blocks.Goals as goal
 
 pub loop-y-init : goal.loop-y-init
-loop-y-init g c = wrote_none _ _ _ (fronts_none (blocks_across c.args.view.now.plane))
+loop-y-init g c = wrote_none _ _ _ (fronts_none (blocks_across c.args.p))
 
 pub loop-y-preserved : goal.loop-y-preserved
-loop-y-preserved g c = wrote_more c.loop-y.invariant _ _ c.blocks_row.ensures (fronts_next (blocks_across c.args.view.now.plane) c.loop-y.y)
+loop-y-preserved g c = wrote_more c.loop-y.invariant _ _ c.blocks_row.ensures (fronts_next (blocks_across c.args.p) c.loop-y.y)
 
 pub overflow_mul-result : goal.overflow_mul-result
-overflow_mul-result g c = let view = c.args.view.now in omega (arith, count_most view.plane (length view.samples.now) (lies _ _ view.lies))
+overflow_mul-result g c = omega (arith, count_most c.args.p (length c.args.s.now) (lies _ _ c.requires.s_value))
 
 pub returns : goal.returns
 returns g c =
-    let p = c.args.view.now.plane in
+    let p = c.args.p in
     record { count = refl; costs_after = wrote_all (λ (n k : ℕ). ltb k (n * blocks_across p)) c.loop-y.y (blocks_down p) c.loop-y.invariant (omega arith) }

@@ -7,6 +7,4 @@ use Rattle.sums.proofs.Wrote.{Wrote}
 use Rattle.intra.proofs.all_blocks.Given as goal
 
 abbrev pub invariant-loop-y : goal.invariant-loop-y
-invariant-loop-y g l =
-    let view = l.view in
-    Wrote (λ (k : ℕ). ltb k (l.y * blocks_across view.plane)) (cost_at (g.S.Sample.value l.flat) view.plane (g.S.Sample.values view.samples.now)) l.initial.costs l.costs
+invariant-loop-y g l = Wrote (λ (k : ℕ). ltb k (l.y * blocks_across l.p)) (cost_at (g.S.Sample.value l.flat) l.p (g.S.Sample.values l.s)) l.initial.costs l.costs

@@ -12,21 +12,19 @@ loop-x-init g c = wrote_none _ _ _ (run_none _)
 
 pub overflow_add-start : goal.overflow_add-start
 overflow_add-start g c =
-    omega (arith, c.loop-x-test.true, row_lies {n = length c.args.view.now.samples.now} c.args.view.now.lies c.requires.y_bound c.block_row-start.ensures, c.well_formed)
+    omega (arith, c.loop-x-test.true, row_lies {n = length c.args.s.now} c.requires.s_value c.requires.y_bound c.block_row-start.ensures, c.well_formed)
 
 pub block_cost-requires : goal.block_cost-requires
-block_cost-requires g c = block_lies (row_lies c.args.view.now.lies c.requires.y_bound c.block_row-start.ensures) c.loop-x.x _ c.loop-x-test.true refl
+block_cost-requires g c = block_lies (row_lies c.requires.s_value c.requires.y_bound c.block_row-start.ensures) c.loop-x.x _ c.loop-x-test.true refl
 
 pub loop-x-preserved : goal.loop-x-preserved
 loop-x-preserved g c =
     let s = c.args in
-    let view = s.view.now in
     let x = c.loop-x.x in
-    wrote_one c.loop-x.invariant _ _ (omega (arith, c.loop-x-test.true, costs_in view.plane s.y (length s.costs.now) c.requires.costs_in_bounds c.requires.y_bound))
-    (turn_cost (g.S.Sample.value s.flat) (g.S.Sample.values view.samples.now) _ view.plane.stride _ x _ c.block_cost.ensures) (run_next _ x)
+    wrote_one c.loop-x.invariant _ _ (omega (arith, c.loop-x-test.true, costs_in s.p s.y (length s.costs.now) c.requires.p_in_bounds c.requires.y_bound))
+    (turn_cost (g.S.Sample.value s.flat) (g.S.Sample.values s.s.now) _ s.p.stride _ x _ c.block_cost.ensures) (run_next _ x)
 
 pub returns : goal.returns
 returns g c =
     let s = c.args in
-    let view = s.view.now in
-    row_done (g.S.Sample.value s.flat) view.plane (g.S.Sample.values view.samples.now) s.y _ c.loop-x.x _ _ (row_lies view.lies c.requires.y_bound c.block_row-start.ensures).start_is c.loop-x.invariant (omega arith)
+    row_done (g.S.Sample.value s.flat) s.p (g.S.Sample.values s.s.now) s.y _ c.loop-x.x _ _ (row_lies c.requires.s_value c.requires.y_bound c.block_row-start.ensures).start_is c.loop-x.invariant (omega arith)

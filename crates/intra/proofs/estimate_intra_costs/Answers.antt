@@ -17,8 +17,7 @@ flat_sample-flat-requires g c = (passes g (goal.at.flat_sample-flat-requires g c
 pub fill_blocks-requires : goal.fill_blocks-requires
 fill_blocks-requires g c = (passes g (goal.at.fill_blocks-requires g c).In_ok-intra_fault).second
 
-pub invariant_of-view : goal.invariant_of-view
-invariant_of-view g c = record { lies = (passes g (goal.at.invariant_of-view g c).In_ok-intra_fault).first }
-
 pub all_blocks-requires : goal.all_blocks-requires
-all_blocks-requires g c = (passes g (goal.at.all_blocks-requires g c).In_ok-intra_fault).room_enough
+all_blocks-requires g c =
+    let passed = passes g (goal.at.all_blocks-requires g c).In_ok-intra_fault in
+    record { s_value = passed.first; p_in_bounds = passed.room_enough }
