@@ -1,5 +1,5 @@
-// The library for C, whose parameters these are: numbers for depth and mode, and four for a plane. Each function answers a number at or above 0, or a refusal's number negated. What it
-// writes to lent places is in its contract, whole.
+// The library for C, whose parameters these are: numbers for depth and mode, and four for a plane. Each function answers a number at or above 0, or
+// a refusal's number negated. What it writes to lent places is in its contract, whole.
 #![tactic(auto)]
 
 ghost use Rattle.std.specs.Prelude.{◌≡◌};

@@ -37,7 +37,8 @@ fn strip_fault(p: Plane, n: usize) -> Result<(), Refusal>
     Ok(())
 }
 
-// Refusal 3, 19 or 4. (The two planes' sides are held against each other and the carry's: planes that are equal have one stride too.) 19 is by the whole size, so a strip without a row gets it too.
+// Refusal 3, 19 or 4. (The two planes' sides are held against each other and the carry's: planes that are equal have one stride too.) 19 is by
+// the whole size, so a strip without a row gets it too.
 #[tactic(auto, using(answer::proofs::Laws::refusals), unfolding(crate::specs::Strips::match_fault))]
 fn match_fault(c: Carry, p: Plane, q: Plane, room: usize, costs: usize) -> Result<(), Refusal>
     requires { (c.width ≤ max_side) × (c.height ≤ max_side) }
