@@ -11,6 +11,9 @@ pub mod decision;
 pub mod numbers;
 pub mod scoring;
 
+// The largest finite f64, for whoever cites it: the code here calls it `f64::MAX`.
+pub const F64_MAX: f64 = f64::MAX;
+
 // The scores of a pair of frames, and which pair that is.
 #[derive(Clone, Copy)]
 pub struct ScenecutResult {
@@ -79,13 +82,18 @@ impl ScoreDeque {
         &self.entries[..self.count.min(Settings::ROOM)]
     }
 
-    // One score more, in front. Where all the room is taken the last entry falls out.
+    // One score more, in front. Where all the room is taken the last entry falls out. (One by one, by index: `copy_within` calls memmove, which
+    // whoever links the archive would have to bring.)
     fn push_front(&mut self, s: ScenecutResult)
         ensures { held self.new ≡ holding (take room (s ∷ content self.old)) }
     {
         let kept = self.count.min(Settings::ROOM - 1);
-        self.entries.copy_within(..kept, 1);
-        self.entries[0] = s;
+        let mut carried = s;
+        for i in 0..kept + 1 {
+            let next = self.entries[i];
+            self.entries[i] = carried;
+            carried = next;
+        }
         self.count = kept + 1;
     }
 

@@ -92,7 +92,9 @@ fn standard_score(pair: u64, m: Measure, back: f64) -> ScenecutResult
     ScenecutResult::new(pair, m.inter, m.importance, back, 0.0, m.threshold)
 }
 
-// The deque with a pair scored. `level` is the threshold of Fast mode. (`fast` is a truth of the settings, as `score_of` has it.)
+// The deque with a pair scored. `level` is the threshold of Fast mode. (`fast` is a truth of the settings, as `score_of` has it.) It is made a
+// part of its callers: called, it would take a deque more of the stack.
+#[inline(always)]
 pub fn run_comparison(
     fast: bool,
     level: f64,

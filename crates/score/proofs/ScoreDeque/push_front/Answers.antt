@@ -1,17 +1,24 @@
--- `push_front` meets its contract: what is kept goes one place on, and the score stands before it.
+-- `push_front` meets its contract: each turn puts the carried entry down and takes up the one that stood there, so that after i turns
+-- the first i slots are those of the list with s in front.
 -- Assumes nothing.
 use mathlib.Core.Path.{◌≡◌, sym, ◌∙◌, ap}
 use mathlib.Core.List.{List, ◌∷◌}
-use Prim.Native.Nat.{◌+◌, ◌-◌, min}
-use native.Mathlib.Nat.{sub-zero}
+use Prim.Native.Nat.{suc, ◌-◌, min}
 use native.Mathlib.Omega.{arith}
-use lib.ListN.{length, take, length-take, set}
+use native.Mathlib.Numerals.{add-one}
+use lib.ListN.{length, take, length-take}
 use Rattle.settings.specs.Settings.{room}
 use Rattle.score.specs.declared.ScenecutResult.{ScenecutResult}
 use Rattle.score.proofs.Room.{held_is}
-use Rattle.score.proofs.Shift.{shifted}
+use Rattle.score.proofs.Shift.{begin, more}
 use Rattle.score.proofs.Window.{take_min}
 use Rattle.score.proofs.ScoreDeque.push_front.Goals as goal
+
+pub loop-i-init : goal.loop-i-init
+loop-i-init c = begin _ _
+
+pub loop-i-preserved : goal.loop-i-preserved
+loop-i-preserved c = more _ _ _ _ _ _ (omega arith) c.loop-i.invariant
 
 pub returns : goal.returns
 returns c =
@@ -21,9 +28,9 @@ returns c =
     let kept = c.min-kept.result in
     let long : length l ≡ room = omega arith in
     let fits : kept ≡ min (room - 1) count = omega (arith, c.min-kept.ensures) in
-    let moved = rw sub-zero at c.copy_within.ensures.after in
-    let is : take (kept + 1) (set c.copy_within.new.self 0 s) ≡ take room (s ∷ take count l) =
-    ap (λ (t : List ScenecutResult). take (kept + 1) (set t 0 s)) moved
-    ∙ shifted s l kept (omega arith)
-    ∙ ap (λ (t : List ScenecutResult). s ∷ t) (rw fits (sym (take_min (room - 1) count l))) in
-    held_is (kept + 1) _ (take room (s ∷ take count l)) is (omega (arith, length-take room (s ∷ take count l), length-take count l))
+    let end : c.loop-i.i ≡ suc kept = omega arith in
+    let front : take (suc kept) c.loop-i.self.entries ≡ s ∷ take kept l = rw end at c.loop-i.invariant.front in
+    rw add-one
+    (held_is (suc kept) c.loop-i.self.entries (take room (s ∷ take count l))
+    (front ∙ ap (λ (t : List ScenecutResult). s ∷ t) (rw fits (sym (take_min (room - 1) count l))))
+    (omega (arith, length-take room (s ∷ take count l), length-take count l)))
