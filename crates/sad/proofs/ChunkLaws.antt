@@ -77,6 +77,19 @@ front_taken whole sum part n a b long h p =
     chunk_taken whole sum part a b (take n a) (drop n a) (take n b) (drop n b) h (sym (take-append-drop n a)) (sym (take-append-drop n b))
     (omega (arith, length-take n a, length-take n b, long)) p
 
+-- a part that goes on to the end
+all_left : (a b : List ℕ) (n : ℕ) → gaps (drop n a) (drop n b) ≡ gaps (take (length a - n) (drop n a)) (take (length b - n) (drop n b))
+all_left a b n =
+    let all : (l : List ℕ) → take (length l - n) (drop n l) ≡ drop n l = λ l. ap (λ (k : ℕ). take k (drop n l)) (sym (length-drop n l)) ∙ take-length (drop n l) in
+    rw (all a, all b) refl
+
+-- two lists in two parts
+pub two_parts : (a b : List ℕ) (n s t : ℕ) → length a ≡ length b → n ≤ length a → s ≡ gaps (take n a) (take n b)
+    → t ≡ gaps (take (length a - n) (drop n a)) (take (length b - n) (drop n b)) → s + t ≡ gaps a b
+two_parts a b n s t long h e f =
+    let first = front_taken (gaps a b) 0 s n a b long (omega arith) e in
+    omega (arith, first, all_left a b n, f)
+
 -- two lists in three parts
 pub row_parts : (a b : List ℕ) (m n s t u : ℕ) → length a ≡ length b → m ≤ n → s ≡ gaps (take m a) (take m b)
     → t ≡ gaps (take (n - m) (drop m a)) (take (n - m) (drop m b)) → u ≡ gaps (take (length a - n) (drop n a)) (take (length b - n) (drop n b)) → s + t + u ≡ gaps a b
@@ -84,9 +97,8 @@ row_parts a b m n s t u long h e f g =
     let first = front_taken (gaps a b) 0 s m a b long (omega arith) e in
     let second = front_taken (gaps a b) s t (n - m) (drop m a) (drop m b) (omega (arith, length-drop m a, length-drop m b, long)) (omega (arith, first)) f in
     let here : (l : List ℕ) → drop (n - m) (drop m l) ≡ drop n l = λ l. drop-drop (n - m) m l ∙ ap (λ (k : ℕ). drop k l) (omega arith) in
-    let all : (l : List ℕ) → take (length l - n) (drop n l) ≡ drop n l = λ l. ap (λ (k : ℕ). take k (drop n l)) (sym (length-drop n l)) ∙ take-length (drop n l) in
-    let last : gaps (drop (n - m) (drop m a)) (drop (n - m) (drop m b)) ≡ gaps (take (length a - n) (drop n a)) (take (length b - n) (drop n b)) = rw (here a, here b, all a, all b) refl in
-    omega (arith, second, last, g)
+    let last : gaps (drop (n - m) (drop m a)) (drop (n - m) (drop m b)) ≡ gaps (drop n a) (drop n b) = rw (here a, here b) refl in
+    omega (arith, second, last, all_left a b n, g)
 
 -- ---- whether a number reaches 2 to the m, likewise
 

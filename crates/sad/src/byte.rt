@@ -8,10 +8,12 @@ ghost use Rattle.sad.specs.Needs.{gap_at};
 use crate::{Row, RowSad};
 use sums::Sample;
 
-// A row is taken in chunks of CHUNK samples, what is left of it in chunks of SMALL_CHUNK, and the last few one by one.
+// A row is taken in chunks of CHUNK samples, what is left of it in chunks of SMALL_CHUNK, then FEW samples at once, and the last ones by themselves.
 const CHUNK: usize = 32;
 
 const SMALL_CHUNK: usize = 8;
+
+const FEW: usize = 4;
 
 // The sum over two chunks of one length. With a length that is constant where this is inlined, the compiler takes 16 samples
 // in one vector instruction; a sum of 16 bits spares it the widening of every distance.
@@ -43,6 +45,16 @@ fn chunks_sad(a: &[u8], b: &[u8], n: usize) -> u32
     sum
 }
 
+// The sum over what is left of a row behind its chunks. (All of it one by one took a third longer where five samples or more were left.)
+fn rest_sad(a: &[u8], b: &[u8]) -> u32
+    requires lengths { length a.now ≡ length b.now }
+    requires a_len_bound { length a.now ≤ max_side }
+    ensures { result ≡ sum_below (length a.now) (gap_at a.now b.now) }
+{
+    let few = a.len() / FEW * FEW;
+    chunks_sad(&a[..few], &b[..few], FEW) + chunks_sad(&a[few..], &b[few..], 1)
+}
+
 impl RowSad for u8 {
     fn row_sad(a: &[u8], b: &[u8]) -> Row {
         let from = a.len() / CHUNK * CHUNK;
@@ -50,7 +62,7 @@ impl RowSad for u8 {
         let sum = chunks_sad(&a[..from], &b[..from], CHUNK)
             + chunks_sad(&a[from..last], &b[from..last], SMALL_CHUNK);
         Row {
-            sum: sum + chunks_sad(&a[last..], &b[last..], 1),
+            sum: sum + rest_sad(&a[last..], &b[last..]),
             bits: 0,
         }
     }

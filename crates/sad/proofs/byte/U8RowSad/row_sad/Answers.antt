@@ -18,13 +18,13 @@ overflow_add-sum c =
 pub overflow_add-result : goal.overflow_add-result
 overflow_add-result c =
     let s = c.args in
-    let row = row_parts s.a.now s.b.now _ _ _ _ _ c.requires.a_len (omega arith) c.chunks_sad.ensures c.chunks_sad-2.ensures c.chunks_sad-3.ensures in
+    let row = row_parts s.a.now s.b.now _ _ _ _ _ c.requires.a_len (omega arith) c.chunks_sad.ensures c.chunks_sad-2.ensures c.rest_sad.ensures in
     omega (arith, row, gaps_most byte_most s.a.now s.b.now (λ i. search rules) (λ i. search rules) c.requires.a_len_bound)
 
 pub returns : goal.returns
 returns c =
     let s = c.args in
     record {
-      sum_value = row_parts s.a.now s.b.now _ _ _ _ _ c.requires.a_len (omega arith) c.chunks_sad.ensures c.chunks_sad-2.ensures c.chunks_sad-3.ensures;
+      sum_value = row_parts s.a.now s.b.now _ _ _ _ _ c.requires.a_len (omega arith) c.chunks_sad.ensures c.chunks_sad-2.ensures c.rest_sad.ensures;
       by_index = none_large s.a.now s.b.now (λ i. search rules) (λ i. search rules) _;
     }
