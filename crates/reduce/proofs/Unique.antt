@@ -17,6 +17,8 @@ use Rattle.reduce.proofs.squares.sum_row.Kinds as sum-row-kinds
 use Rattle.reduce.proofs.squares.sum_row.Reads as sum-row-reads
 use Rattle.reduce.proofs.squares.put_squares.Kinds as put-squares-kinds
 use Rattle.reduce.proofs.squares.put_squares.Reads as put-squares-reads
+use Rattle.reduce.proofs.squares.put_by_factor.Kinds as put-by-factor-kinds
+use Rattle.reduce.proofs.squares.put_by_factor.Reads as put-by-factor-reads
 use Rattle.reduce.proofs.row.reduce_row.Kinds as reduce-row-kinds
 use Rattle.reduce.proofs.row.reduce_row.Reads as reduce-row-reads
 use Rattle.reduce.proofs.reduce.Kinds as reduce-kinds
@@ -55,6 +57,20 @@ put_squares_unique = put_squares_at byte_type
 
 pub deep_put_squares_unique : PutSquaresAt word_type
 deep_put_squares_unique = put_squares_at word_type
+
+abbrev PutByFactorAt : SampleType → Type 0
+PutByFactorAt w =
+    OneOutcome 3 (put-by-factor-kinds.ps w.row w.laws w.copy) (put-by-factor-kinds.r w.row w.laws w.copy) (List ℕ) (λ κs r e. w.Sample.values e.0.now)
+    (put-by-factor-reads.Post w.row w.laws w.copy w.Sample w.Sample_dict w.Clone w.Clone_dict)
+
+put_by_factor_at : (w : SampleType) → PutByFactorAt w
+put_by_factor_at w κs a r r' e e' p q = p ∙ sym q
+
+pub put_by_factor_unique : PutByFactorAt byte_type
+put_by_factor_unique = put_by_factor_at byte_type
+
+pub deep_put_by_factor_unique : PutByFactorAt word_type
+deep_put_by_factor_unique = put_by_factor_at word_type
 
 abbrev ReduceRowAt : ReduceRowType → Type 0
 ReduceRowAt w =

@@ -8,7 +8,7 @@ ghost use Rattle.sums.specs.Written.{written};
 ghost use Rattle.reduce.specs.Needs.{sum_count, lane_count, RowsIn, pair_at, pairs_from, group_of, mean_from, Half};
 
 use crate::ReduceRow;
-use crate::squares::{put_squares, sum_row};
+use crate::squares::{put_by_factor, sum_row};
 
 // How many sums a chunk has, how many are taken at once, and in how many turns.
 const SUMS: usize = 64;
@@ -123,7 +123,7 @@ impl ReduceRow for u8 {
     fn put_row(out: &mut [u8], s: &[u8], start: usize, stride: usize, factor: usize) {
         let half = factor / 2;
         if out.len() < SUMS / half {
-            put_squares(out, s, start, stride, factor);
+            put_by_factor(out, s, start, stride, factor);
             return;
         }
         put_chunks(out, s, start, stride, half);

@@ -1,8 +1,9 @@
 // Squares of samples that are taken one by one.
-ghost use Rattle.std.specs.Prelude.{ℕ, ◌≡◌, ◌*◌, ◌≤◌, ◌<◌, length, slice_index};
+ghost use Rattle.std.specs.Prelude.{false, ℕ, ◌≡◌, ◌*◌, ◌≤◌, ◌<◌, length, slice_index};
 ghost use Rattle.plane.specs.Needs.{square_from};
 ghost use Rattle.sums.specs.Sums.{sum_below};
 ghost use Rattle.sums.specs.Table.{table};
+ghost use Rattle.reduce.specs.Reduce.{bad_factor};
 ghost use Rattle.reduce.specs.Needs.{RowsIn, mean_from};
 
 use sums::Sample;
@@ -46,5 +47,26 @@ pub fn put_squares<S: Sample>(out: &mut [S], s: &[S], start: usize, stride: usiz
     for (x, mean) in out.iter_mut().enumerate() {
         let sum = sum_square(s, start + x * factor, stride, factor);
         *mean = S::narrowed((sum + samples / 2) / samples);
+    }
+}
+
+// The same by a factor that the compiler does not know. The small factors stand here as such, since it then knows what it divides by and how long
+// a row is; they are told by their order, from which it makes no table of jumps. (A function of its own, so that the loops of the chunks and of the
+// copy lie the same whatever stands here.)
+#[inline(never)]
+pub fn put_by_factor<S: Sample>(out: &mut [S], s: &[S], start: usize, stride: usize, factor: usize)
+    requires factor_value { bad_factor factor ≡ false }
+    requires factor_above { 1 < factor }
+    requires rows_in { RowsIn start stride factor (length out.old * factor) (length s.now) }
+    ensures { S.values out.new ≡ table (length out.old) (mean_from factor (S.values s.now) start stride) }
+{
+    if factor < 4 {
+        put_squares(out, s, start, stride, 2);
+    } else if factor < 8 {
+        put_squares(out, s, start, stride, 4);
+    } else if factor < 16 {
+        put_squares(out, s, start, stride, 8);
+    } else {
+        put_squares(out, s, start, stride, factor);
     }
 }

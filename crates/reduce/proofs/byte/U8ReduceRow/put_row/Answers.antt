@@ -10,8 +10,8 @@ use Rattle.reduce.proofs.byte.U8ReduceRow.put_row.Goals as goal
 pub nonzero_div-half-2 : goal.nonzero_div-half-2
 nonzero_div-half-2 c = (factor_half _ c.requires.factor_value c.requires.factor_above).1.some
 
-pub put_squares-requires : goal.put_squares-requires
-put_squares-requires c = record { factor_nonzero = factor_small _ c.requires.factor_value; rows_in = c.requires.rows_in }
+pub put_by_factor-requires : goal.put_by_factor-requires
+put_by_factor-requires c = c.requires
 
 pub put_chunks-requires : goal.put_chunks-requires
 put_chunks-requires c =
