@@ -76,7 +76,8 @@ fn load_block<S: Sample>(block: &mut [S; SAMPLES], s: &[S], start: usize, stride
 }
 
 // The SATD of the block that starts at a place against the flat prediction. The samples are lent on as a part: so the compiler knows
-// that the block lies elsewhere, and loads a row at once (docs/SPEED.md).
+// that the block lies elsewhere, and loads a row at once (docs/SPEED.md). It is no part of its caller, whose stack is the less for it.
+#[inline(never)]
 fn block_cost<S: Sample>(s: &[S], start: usize, stride: usize, flat: S) -> u32
     requires { SquareIn start stride (length s.now) }
     ensures { result ≡ square_cost (S.value flat) (S.values s.now) start stride }
@@ -103,7 +104,8 @@ fn blocks_row<S: Sample>(p: Plane, s: &[S], costs: &mut [u32], y: usize, flat: S
 }
 
 // All whole blocks of a plane that is not refused: how many there are. (The plane and its samples, and no View: with one, and strips' `finish` kept
-// apart, adding strips took 1,096 bytes of stack, where 1,024 are its bar.)
+// apart, adding strips took 1,096 bytes of stack, where 1,024 are its bar.) It is made a part of its callers, for the same stack.
+#[inline(always)]
 fn all_blocks<S: Sample>(p: Plane, s: &[S], costs: &mut [u32], flat: S) -> u64
     requires s_value { plane_fault p (length s.now) ≡ 0 }
     requires p_in_bounds { block_count p ≤ length costs.old }

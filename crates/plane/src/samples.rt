@@ -30,6 +30,20 @@ fn bits_of<S: Depths>(row: &[S]) -> S
 }
 
 // Whether one of the rows from one up to another has a sample that reaches 2 to the depth. (By number: rows lie a stride apart.)
+#[inline(never)]
+fn looked_rows<S: Depths>(depth: u64, p: Plane, s: &[S], from: usize, to: usize) -> bool
+    ensures { result ≡ rows_large depth p (S.Sample.values s.now) from to }
+{
+    let mut bits = S::narrowed(0);
+    for y in from..to {
+        bits = bits.or(bits_of(p.row(s, y)));
+    }
+    reaches(bits, depth)
+}
+
+// The same where a word may hold no such sample, and then none is looked at. It is made a part of its callers: so the compiler sees that bytes
+// need no look, and what measures bytes has no stack for it.
+#[inline(always)]
 pub fn rows_large<S: Depths>(depth: u64, p: Plane, s: &[S], from: usize, to: usize) -> bool
     ensures { result ≡ rows_large depth p (S.Sample.values s.now) from to }
 {
@@ -37,11 +51,7 @@ pub fn rows_large<S: Depths>(depth: u64, p: Plane, s: &[S], from: usize, to: usi
         S::bounded(s);
         return false;
     }
-    let mut bits = S::narrowed(0);
-    for y in from..to {
-        bits = bits.or(bits_of(p.row(s, y)));
-    }
-    reaches(bits, depth)
+    looked_rows(depth, p, s, from, to)
 }
 
 // Whether a plane that is not refused has a visible sample that reaches 2 to the depth.

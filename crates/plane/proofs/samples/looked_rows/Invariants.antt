@@ -1,11 +1,11 @@
--- `plane::rows_large` meets its contract: after so many turns the bits are those of as many rows. Assumes nothing.
+-- `plane::looked_rows` meets its contract: after so many turns the bits are those of as many rows. Assumes nothing.
 use mathlib.Core.Bool.{Bool}
 use mathlib.Core.List.{List}
 use Prim.Native.Nat.{ℕ, ◌+◌, ◌≤◌, ◌-◌}
 use Rattle.plane.specs.declared.Plane.{Plane}
 use Rattle.plane.specs.Planes.{row_large}
 use Rattle.plane.proofs.SampleLaws.{Reach}
-use Rattle.plane.proofs.samples.rows_large.Given as goal
+use Rattle.plane.proofs.samples.looked_rows.Given as goal
 
 -- whether row j from one on reaches 2 to the n
 abbrev pub large : Plane → List ℕ → ℕ → ℕ → ℕ → Bool
