@@ -21,18 +21,6 @@ struct Lent {
 }
 
 impl Lent {
-    fn new(memory: &Memory) -> Lent {
-        let mut lent = Lent {
-            log: [0; SAMPLES],
-            cuts: [0; SAMPLES],
-            numbers: [0; COSTS],
-            bits: [0; BITS],
-            torn: memory.number(memory::TORN),
-        };
-        lent.pass(memory, Side::Given);
-        lent
-    }
-
     // The lists are filled, or compared.
     fn pass(&mut self, memory: &Memory, side: Side) -> bool {
         memory.pass(side, &mut self.log, memory::FIRST)
@@ -73,8 +61,16 @@ impl Lent {
     }
 }
 
+// (The lists are made where they stand: one that a function hands back is copied, and these are 21 KB.)
 pub fn replay(task: Task, memory: &Memory) -> bool {
-    let mut lent = Lent::new(memory);
+    let mut lent = Lent {
+        log: [0; SAMPLES],
+        cuts: [0; SAMPLES],
+        numbers: [0; COSTS],
+        bits: [0; BITS],
+        torn: memory.number(memory::TORN),
+    };
+    lent.pass(memory, Side::Given);
     let answer = match task {
         Task::Scan => lent.scan(memory),
         Task::Read => lent.read(memory),

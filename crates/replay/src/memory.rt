@@ -115,7 +115,8 @@ impl Memory {
         answer == self.number(0)
     }
 
-    // A list is filled from a place on, or compared. Whether it holds what it should.
+    // A list is filled from a place on, or compared. Whether it holds what it should. (A fold and not `all`: a comparison that never stops early
+    // takes half the time, and most lists are as they should be.)
     pub fn pass<T: Word>(&self, side: Side, list: &mut [T], place: usize) -> bool {
         let words = self
             .words
@@ -128,7 +129,10 @@ impl Memory {
                 }
                 true
             }
-            Side::Due => list.iter().zip(words).all(|(x, w)| x.is(*w)),
+            Side::Due => list
+                .iter()
+                .zip(words)
+                .fold(true, |same, (x, w)| same & x.is(*w)),
         }
     }
 }
