@@ -103,6 +103,11 @@ answer_same fault a b e = by_case (eqb fault 0) (λ t. e (eqb-true fault 0 t))
     by_case true e = ap gives (e refl)
     by_case false e = refl
 
+-- two enum answers with the same number and value are the same: the way back gives each
+module _ {E A : Type 0} (to : E → Answer A) (back : Answer A → E) (same : (r : E) → back (to r) ≡ r) where
+  pub only : (r s : E) → to r ≡ to s → r ≡ s
+  only r s e = sym (same r) ∙ ap back e ∙ same s
+
 -- a refusal has a number of its own, and 0 is none's
 pub by_number : ℕ → Refusal
 by_number n =

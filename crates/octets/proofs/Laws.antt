@@ -76,6 +76,10 @@ module _ (n at : ℕ) (s : List ℕ) where
   unfolding number_at
   number_lacks e = rw e
 
+  pub with_lacks : (x : ℕ) → lies n at s ≡ false → with_number n at x s ≡ s
+  unfolding with_number
+  with_lacks x e = rw e
+
 -- what was put there is read there
 pub number_back : (n at x : ℕ) (s : List ℕ) → at + n ≤ length s → x < 256 ^ n → number_at n at (with_number n at x s) ≡ x
 number_back n at x s h f =

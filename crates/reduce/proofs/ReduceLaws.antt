@@ -10,7 +10,7 @@ use lib.Dec.{eqb, ltb}
 use lib.ListN.{length, get_or, take, drop, length-drop}
 use Rattle.std.proofs.Common.{length-take-le, get_or-take, get_or-drop}
 use Rattle.std.specs.Prelude.{map}
-use Rattle.answer.proofs.Laws.{or_none, or_later, passed}
+use Rattle.answer.proofs.Laws.{or_none, or_given, or_later, passed}
 use Rattle.plane.specs.Needs.{row_from, square_from}
 use Rattle.plane.specs.Planes.{Word, plane_fault, word_fault, sample_fault}
 use Rattle.plane.specs.declared.Plane.{Plane}
@@ -26,7 +26,7 @@ use Rattle.sums.proofs.SampleLaws.{length_values, values_take, values_drop}
 use Rattle.sums.proofs.SumLaws.{NextSum, sum_ext, sum_most, sum_more, sum_none, sum_swap, sum_pairs}
 use Rattle.sums.proofs.TableLaws.{table_at}
 use Rattle.sums.proofs.WrittenLaws.{written_value}
-use Rattle.reduce.specs.Reduce.{bad_factor, not_reduced, sides_fault, reduce_fault}
+use Rattle.reduce.specs.Reduce.{bad_factor, not_reduced, sides_fault, reduce_fault, sides_by}
 use Rattle.reduce.specs.Needs.{sum_count, pair_at, pair_from, pairs_from, group_of, mean_from, Half}
 
 -- ---- factors
@@ -114,6 +114,16 @@ module _ (word : Word) (depth f : ℕ) (p : Plane) (s : List ℕ) (q : Plane) (r
   fine e =
       let t = (by_sides (or_none _ _ e).0).1 in
       record { factor_value = t.0; s_value = t.1.0; reduced_value = t.1.1.0; q_value = t.1.1.1 }
+
+  -- where the refusal w of the depth was given: one of the sides is the reduction's ..
+  module _ (w : ℕ) (d : w ≡ word_fault word depth) where
+    by_word : (n : ℕ) → n ≡ sides_by w f p (length s) q (length r) → n ≡ sides_fault word depth f p (length s) q (length r)
+    unfolding sides_fault
+    by_word n e = e ∙ ap (λ (i : ℕ). sides_by i f p (length s) q (length r)) d
+
+    pub sides_refused : (n : ℕ) → n ≡ sides_by w f p (length s) q (length r) → (n ≡ 0 → ⊥) → n ≡ reduce_fault word depth f p s q r
+    unfolding reduce_fault
+    sides_refused n e h = or_given n _ _ (by_word n e) h
 
   -- .. where the sides are not refused, the samples decide
   pub samples_decide : 0 ≡ sides_fault word depth f p (length s) q (length r) → (n : ℕ) → n ≡ sample_fault word depth p s → n ≡ reduce_fault word depth f p s q r

@@ -4,9 +4,12 @@ use mathlib.Core.Path.{◌≡◌, refl, sym, ap, ◌∙◌}
 use mathlib.Core.List.{List}
 use Prim.Native.Nat.{ℕ, ◌+◌, ◌*◌, ◌/◌, ◌≤◌, ◌<◌}
 use native.Mathlib.Omega.{arith}
+use borrow.Author.Tests.{eq-eqb, ne_eqb}
 use lib.IntN.{ℤ, pos, ◌-ℤ◌, nat_abs}
 use Rattle.std.specs.Prelude.{map}
 use lib.ListN.{length, get_or, set, length-set}
+use Rattle.answer.specs.Answer.{gives, refused}
+use Rattle.answer.proofs.Laws.{or_given, or_later, answer_given, answer_refused}
 use Rattle.sums.proofs.TableLaws.{length_table, is_table, one_filled}
 use Rattle.sums.proofs.SumLaws.{sum_most}
 use Rattle.sums.proofs.SignedLaws.{abs_difference}
@@ -16,7 +19,20 @@ use Rattle.hadamard.specs.Transform.{entry_most, transform_fault, transformed, a
 use Rattle.hadamard.specs.Steps.{AllWithin}
 use Rattle.hadamard.proofs.Square.{length_transformed, transformed_within}
 use Rattle.hadamard.proofs.Range.{table_within, none_beyond, within_more, accepted}
-use Rattle.satd.specs.Satd.{block_size, difference, differences, abs_sum, satd_value}
+use Rattle.satd.specs.Satd.{block_size, difference, differences, abs_sum, satd_value, satd_of}
+
+-- a block of another length is refused, and two whole blocks have a SATD
+module _ (first second : List ℕ) where
+  pub first_refused : (length first ≡ block_size → ⊥) → refused 2 ≡ satd_of first second
+  first_refused h = answer_refused 2 _ _ (or_given 2 _ _ (rw (ne_eqb (length first) block_size h)) (λ e. omega arith)) (λ e. omega arith)
+
+  pub second_refused : length first ≡ block_size → (length second ≡ block_size → ⊥) → refused 2 ≡ satd_of first second
+  second_refused e h =
+      answer_refused 2 _ _ (or_later 2 _ _ (rw (eq-eqb (length first) block_size e)) (rw (ne_eqb (length second) block_size h))) (λ e. omega arith)
+
+  pub satd_given : length first ≡ block_size → length second ≡ block_size → gives (satd_value first second) ≡ satd_of first second
+  satd_given d e =
+      answer_given _ _ _ (or_later 0 _ _ (rw (eq-eqb (length first) block_size d)) (rw (eq-eqb (length second) block_size e))) refl
 
 -- ---- the loop of the subtraction: the first i differences stand in their places
 pub record Subtracted (first second : List ℕ) (i : ℕ) (l : List ℤ) : Type 0 where

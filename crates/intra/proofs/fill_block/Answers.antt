@@ -17,7 +17,7 @@ pub loop-y-preserved : goal.loop-y-preserved
 loop-y-preserved g c =
     let s = c.args in
     wrote_copied g.met.S.Sample.each c.loop-y.invariant _ _ block_side (omega arith) (replicate block_side s.flat) _ c.copy.ensures refl
-    (c.requires.rows c.loop-y.y c.loop-y-test.true) (flat_at g.met.S.Sample.each s.flat) (rows_next s.start s.stride c.loop-y.y block_side)
+    (c.requires.rows c.loop-y.y (omega arith)) (flat_at g.met.S.Sample.each s.flat) (rows_next s.start s.stride c.loop-y.y block_side)
 
 pub returns : goal.returns
 returns g c =
