@@ -37,7 +37,7 @@
  * run in several threads.
  *
  * Stack. A measure takes 2 KiB of it at most, and one of strips 1 KiB, with all that it calls (the tests hold it to that;
- * docs/SPEED.md has each one's bytes). brine_detector_step takes 5.1 KB, and what memcpy, memmove and memset take.
+ * docs/SPEED.md has each one's bytes). brine_detector_step takes 5.1 KB, and what memcpy and memset take.
  *
  * A plane is a pointer to samples, their number, then width, height, stride and origin: sample (x, y) is
  * samples[origin + y * stride + x]. Samples outside the plane's width and height are never read or written. Where a function
