@@ -51,8 +51,8 @@ pub fn put_squares<S: Sample>(out: &mut [S], s: &[S], start: usize, stride: usiz
 }
 
 // The same by a factor that the compiler does not know. The small factors stand here as such, since it then knows what it divides by and how long
-// a row is; they are told by their order, from which it makes no table of jumps. (A function of its own, so that the loops of the chunks and of the
-// copy lie the same whatever stands here.)
+// a row is; they are told by their order, from which it makes no table of jumps. (It is no part of its callers: as a part of them words by 2 took up to half
+// as long again, as the code lay.)
 #[inline(never)]
 pub fn put_by_factor<S: Sample>(out: &mut [S], s: &[S], start: usize, stride: usize, factor: usize)
     requires factor_value { bad_factor factor ≡ false }

@@ -10,7 +10,7 @@ use crate::{cut, detect, logs, memory, planes};
 
 const ENTRIES: usize = 128;
 
-// A call of the list.
+// Makes a call of the list. Whether it answered what is due, and wrote what it should.
 pub fn replay(call: Call, desk: &mut Desk) -> bool {
     let memory = &desk.memory;
     match call {

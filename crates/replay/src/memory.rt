@@ -115,8 +115,8 @@ impl Memory {
         answer == self.number(0)
     }
 
-    // A list is filled from a place on, or compared. Whether it holds what it should. (A fold and not `all`: a comparison that never stops early
-    // takes half the time, and most lists are as they should be.)
+    // A list is filled from a place on, or compared. Whether it holds what it should. (A fold and not `all`: most lists are as they should be, and
+    // with `all` the calls on planes and logs took a tenth to a quarter longer.)
     pub fn pass<T: Word>(&self, side: Side, list: &mut [T], place: usize) -> bool {
         let words = self
             .words

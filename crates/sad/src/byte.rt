@@ -45,7 +45,8 @@ fn chunks_sad(a: &[u8], b: &[u8], n: usize) -> u32
     sum
 }
 
-// The sum over what is left of a row behind its chunks. (All of it one by one took a third longer where five samples or more were left.)
+// The sum over what is left of a row behind its chunks. (All of it one by one took a quarter longer or more where five samples or more were
+// left, in planes of up to 127 columns.)
 fn rest_sad(a: &[u8], b: &[u8]) -> u32
     requires lengths { length a.now ≡ length b.now }
     requires a_len_bound { length a.now ≤ max_side }
